@@ -88,7 +88,7 @@ fn push_first_paragraph(line: &mut String, text: &str) -> Result<(), AllocError>
     Ok(())
 }
 
-// Appends the similar word that `clap` proposes for a misspelt word, if there is one.
+// Appends the tips in which `clap` proposes similar words for a misspelt word, if there are any.
 fn push_similar(line: &mut String, text: &str) -> Result<(), AllocError> {
     for part in text.lines() {
         let tip = part.trim().strip_prefix("tip: ").unwrap_or("");

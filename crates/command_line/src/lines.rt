@@ -54,7 +54,7 @@ pub fn error_line<T: Display>(alloc: Global, program: &str, what: &T) -> Result<
     line(alloc, program, text.as_str())
 }
 
-// Writes the line that memory was refused, without taking memory.
+// Writes the line `PROGRAM: out of memory`, without taking memory.
 fn say_no_memory(rt: &HostRuntime, program: &str) -> io::Result<()> {
     let mut stderr = rt.stderr();
     stderr.write_all(program.as_bytes())?;

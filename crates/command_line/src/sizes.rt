@@ -70,8 +70,8 @@ fn in_halves(alloc: Global, halves: u64, unit: &str) -> Result<String, AllocErro
     format!(in alloc; "{whole}{half} {unit}")
 }
 
-// Writes a size in the first of these units that shows it exactly with at most one decimal. If no unit does,
-// writes it in bytes.
+// Returns a size as a text in the first of these units that shows it exactly with at most one decimal. If no
+// unit does, the text is in bytes.
 fn text_in(alloc: Global, units: &[Unit], bytes: u64) -> Result<String, AllocError>
     ensures { IfOk result (λ text. string_bytes text ≡ size_text units.now bytes) }
 {
@@ -83,8 +83,8 @@ fn text_in(alloc: Global, units: &[Unit], bytes: u64) -> Result<String, AllocErr
     format!(in alloc; "{bytes} B")
 }
 
-/// Writes a size in the greatest binary unit that shows it exactly with at most one decimal, such as `1 GiB`
-/// or `1.5 MiB`. If no unit does, writes it in bytes, such as `1000 B`.
+/// Returns a size as a text in the greatest binary unit that shows it exactly with at most one decimal, such
+/// as `1 GiB` or `1.5 MiB`. If no unit does, the text is in bytes, such as `1000 B`.
 ///
 /// # Errors
 ///

@@ -53,7 +53,7 @@ fn widen(widths: &mut Vec<usize>, row: &[String]) -> Result<(), AllocError> {
 }
 
 impl Table {
-    /// Makes a table without rows.
+    /// Makes a table without rows and without headings.
     pub fn new(alloc: Global) -> Table {
         Table {
             rows: Vec::new(alloc),
@@ -76,7 +76,7 @@ impl Table {
         Ok(table)
     }
 
-    /// Adds a row of words.
+    /// Adds a row of words after the other rows, and widens the columns that are too narrow for it.
     ///
     /// # Errors
     ///

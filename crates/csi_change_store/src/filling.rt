@@ -12,7 +12,7 @@ use sqlite::{Alter, Connection};
 use std::alloc::Global;
 
 // Puts all rows of a change store into the tables on a connection, in one transaction. So each page of the
-// tables is written once, for any order of the rows.
+// database is written once, for any order of the rows.
 fn fill<P: Peer, S: Alter>(
     alloc: Global,
     peer: &mut P,

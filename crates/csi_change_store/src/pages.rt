@@ -22,7 +22,8 @@ use std::alloc::Global;
 pub struct PagesRead {
     /// The token of the next page. It is empty after the last page.
     pub token: Vec<u8>,
-    /// The format number in the row of the table `meta`, or `None` if no such row was read yet.
+    /// The format number in the last row of the table `meta` that was read, or `None` if no such row was read
+    /// yet.
     pub format: Option<u64>,
     /// True if a row of volumes or of attachments was read.
     pub has_rows: bool,
@@ -124,7 +125,7 @@ fn note_item(notes: &mut PagesRead, item: &PageField<'_>) -> Result<(), RowsFaul
     Ok(())
 }
 
-// Puts all rows of a page into the tables, in order, and updates the notes with each item.
+// Puts all rows of a page into the tables in the order of the page, and updates the notes with each field.
 fn put_items<S: Alter>(
     alloc: Global,
     tx: &mut Transaction<'_, S>,
@@ -148,8 +149,8 @@ fn put_items<S: Alter>(
     Ok(())
 }
 
-/// Puts the rows of a page into the tables of a transaction, in order. Sets the token, the format and
-/// `has_rows` of `notes`.
+/// Puts the rows of a page into the tables of a transaction, in the order of the page. Sets the token, the
+/// format and `has_rows` of `notes`. After an error, the transaction may have some of the rows.
 ///
 /// # Errors
 ///

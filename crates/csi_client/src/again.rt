@@ -7,7 +7,7 @@ ghost use Rattle.csi_client.specs.Again.{is_unanswered, unanswered_count, answer
 use crate::receiving::Received;
 use envelope::ReplyWhy;
 
-/// A client's line to a server: it makes a new connection for each exchange.
+/// A client's line to a server. In each exchange, the line sends one frame and waits for its reply.
 pub trait Line {
     // The number of exchanges made so far.
     ghost exchanges: { Self → ℕ };
@@ -19,8 +19,8 @@ pub trait Line {
     // Only this relation mentions the frame, so a line for which it holds has sent the frame.
     ghost exchanged: { Self → Self → List ℕ → Received → Type 0 };
 
-    /// Sends a call's frame on a new connection and waits for the reply. Returns [`Received::Failed`] if it
-    /// cannot connect or send.
+    /// Sends a call's frame and waits for the reply. The line may use a new connection, or a connection on
+    /// which the last exchange got a reply. Returns [`Received::Failed`] if it cannot connect or send.
     ///
     /// The line counts its exchanges, and the exchanges that got no answer.
     fn exchange(&mut self, frame: &[u8]) -> Received
@@ -30,9 +30,9 @@ pub trait Line {
         ensures sent { exchanged self.old self.new frame.now result };
 }
 
-/// Returns true if it is unknown to the client whether the server executed the call: the connection failed,
-/// or it ended before the complete reply. A complete reply is an answer, even if it is malformed.
-/// [`Received::NoMemory`] counts as an answer too, since sending the call again would not help.
+/// Returns true if the client cannot know if the server executed the call: the connection failed, or it ended
+/// before the complete reply. A complete reply is an answer, even if it is malformed. [`Received::NoMemory`]
+/// counts as an answer too, since sending the call again would not help.
 pub fn is_unanswered(received: &Received) -> bool
     ensures { result ≡ is_unanswered received.now }
 {
@@ -78,11 +78,11 @@ impl Exchanges {
     }
 }
 
-/// Sends a call's frame until an exchange gets an answer, each time on a new connection. `tries` is the
+/// Sends a call's frame until an exchange gets an answer ([`is_unanswered`] returns false). `tries` is the
 /// greatest number of exchanges, 1 to 10. Returns the outcome of the last exchange.
 ///
-/// Each call of the Container Storage Interface may be sent again: the server executes it only once (CSI
-/// specification, 'Timeouts').
+/// Each call of the Container Storage Interface may be sent again: a server that has made the change of the
+/// call does not make it a second time (CSI specification, 'Timeouts').
 pub fn call_again<L: Line>(line: &mut L, frame: &[u8], tries: u32) -> Received
     requires few { L.exchanges line.old < 2 ^ 63 }
     requires least { 1 ≤ tries }

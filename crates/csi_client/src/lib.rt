@@ -4,11 +4,10 @@
 //! as one word. `specs/Replies.antt`, `specs/Lines.antt` and `specs/Escape.antt` define the same lines and
 //! words by functions. The contracts use these functions: the lines show the value that the codec's
 //! `read_response` reads from the bytes. `calling.rt` makes the frame of a call, which `send` of
-//! `frames_core` writes. `again.rt` sends the frame on one connection after another until the call is
-//! answered; `specs/Again.antt` defines which outcomes are answers. `receiving.rt` reads the first reply and
-//! `showing.rt` shows all replies of a stream, both with a `ReplyFramer`. `specs/Receiving.antt` and
-//! `specs/Showing.antt` define the bytes read and written for each outcome, and `specs/Live.antt` what holds
-//! between two reads.
+//! `frames_core` writes. `again.rt` sends the frame again until the call is answered; `specs/Again.antt`
+//! defines which outcomes are answers. `receiving.rt` reads the first reply and `showing.rt` shows all
+//! replies of a stream, both with a `ReplyFramer`. `specs/Receiving.antt` and `specs/Showing.antt` define the
+//! bytes read and written for each outcome, and `specs/Live.antt` what holds between two reads.
 //!
 //! ```rust
 //! put_call(&mut frame, method, &message)?;

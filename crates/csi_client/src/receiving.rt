@@ -64,7 +64,7 @@ pub enum Received {
     Reply(ReceivedReply),
     /// The input ended before the first byte of a reply was received.
     Nothing,
-    /// The input begins with a malformed reply. The value is the fault.
+    /// The input begins with a malformed reply, or ends within the first reply. The value is the fault.
     Malformed(ReplyFault),
     /// A read failed before the complete reply was received, or a [`Line`](crate::Line) could not connect or
     /// send.

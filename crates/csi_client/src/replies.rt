@@ -71,7 +71,8 @@ pub fn put_reply_line(alloc: Global, out: &mut Vec<u8>, reply: &Reply<'_>) -> Re
     out.extend_from_slice(line.as_slice())
 }
 
-// Returns the lines of a response as new bytes. So a caller whose memory is refused appends no partial lines.
+// Returns the lines of a response as new bytes. So `put_response` appends all lines or, if memory is refused,
+// none.
 fn lines_of(alloc: Global, response: &Response) -> Result<Vec<u8>, AllocError>
     ensures { IfOk result (λ said. said.items ≡ lines response.now) }
 {
@@ -89,8 +90,8 @@ fn put_response(alloc: Global, out: &mut Vec<u8>, response: &Response) -> Result
     out.extend_from_slice(said.as_slice())
 }
 
-// Appends the lines of a decoded response, or returns the fault if decoding failed. The response is borrowed,
-// so its owner makes only one call that can fail.
+// Appends the lines of a decoded response, or returns the fault if decoding failed. The function borrows the
+// response, so the caller makes only one call that can fail while it owns the response.
 fn put_decoded(
     alloc: Global,
     out: &mut Vec<u8>,

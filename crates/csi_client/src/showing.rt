@@ -37,7 +37,7 @@ pub enum ShowEnd {
     BadBody,
     /// A read failed, or 2^32 reads were made. All complete replies were shown.
     ReadFailed,
-    /// A write or a flush failed. All replies before the last reply were shown. Of the lines of the last
+    /// A write or a flush failed in a reply. All replies before this reply were shown. Of the lines of this
     /// reply, a part was shown, which may be empty or complete.
     WriteFailed,
     /// Memory was refused for the buffer of frames, or for the lines of a reply.

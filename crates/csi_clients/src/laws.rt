@@ -100,18 +100,18 @@ pub fn made_later(config: &Config)
 
 /// A history of several clients is linearizable if no two of them work on one object at once.
 ///
-/// The history starts in a State that meets the invariant. Each client tries its requests in order, and tries
-/// each request until it is answered. All requests pass the checks of their arguments. A try may be refused
-/// for memory or by the store, or because the store is down. An answer may be lost. Between any two tries a
-/// stop may end the session, and leaves the State after its tries, or the State with the change of a refused
-/// try. A client may be gone after any try, because its process ends or because it gives up. At any time,
-/// requests may be made that change nothing.
+/// The history starts in a State that meets the invariant. Each client tries its requests one after the
+/// other, and tries each request until it is answered. All requests pass the checks of their arguments. A try
+/// may be refused for memory or by the store, or because the store is down. An answer may be lost. Between
+/// any two tries a stop may end the session, and leaves the State after its tries, or the State with the
+/// change of a refused try. A client may be gone after any try, because its process ends or because it gives
+/// up. At any time, requests may be made that change nothing.
 ///
 /// The tries are *separate*. A request is unsettled from its first try until it is answered or its client is
-/// gone. If it was refused for memory or by the store, it stays unsettled until it is done or the session
-/// ends. While a request is unsettled, it leaves alone the object of each request that another client tries,
-/// and each such request leaves alone the object of the unsettled request. The object of a request that
-/// changes nothing need not be left alone.
+/// gone. If it was refused for memory or by the store, it stays unsettled until the machine executes a later
+/// try of it, or the session ends. While a request is unsettled, it leaves alone the object of each request
+/// that another client tries, and each such request leaves alone the object of the unsettled request. The
+/// object of a request that changes nothing need not be left alone.
 ///
 /// Then there is an order of requests with these properties:
 ///
@@ -189,9 +189,9 @@ pub fn retry_alone(config: &Config)
 ///
 /// # Not promised
 ///
-/// A call may never be answered. The law does not say what two clients hear that work on the same object at
-/// once. It assumes that the calls of a front, a sidecar or a person are separate (docs/DEPLOY.md, "Clients
-/// that share a front").
+/// The law does not promise that each call is answered at some time. It does not say what two clients hear
+/// that work on the same object at once. It assumes that the calls of a front, a sidecar or a person are
+/// separate (docs/DEPLOY.md, "Clients that share a front").
 pub fn linearizable_calls<K: Keeper>(config: &Config)
     ensures begun { (s t : State) (todo : ℕ → List Request) (sessions : List (List ClientExchange))
         (heard : ℕ → List ReplyBytes) → IsInvariant config.now s

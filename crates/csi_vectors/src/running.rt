@@ -27,10 +27,10 @@ pub enum VectorsEnd {
     LinesSpent,
     /// A read of the vectors failed for a reason other than lack of memory.
     ReadFailed,
-    /// A write or a flush failed, or a write was interrupted. The results of all lines before the last line
-    /// were written. Of the result of the last line, a part was written.
+    /// A write or a flush of a result failed, or a write was interrupted. The results of all earlier lines
+    /// were written. Of this result, a part was written, which may be empty or complete.
     WriteFailed,
-    /// Memory for a line, a vector or a server was refused.
+    /// Memory for the configuration, the buffer of the input, a line, a vector or a server was refused.
     NoMemory,
 }
 

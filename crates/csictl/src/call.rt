@@ -28,7 +28,8 @@ pub(crate) fn show(
     show_lines(rt, method, reply)
 }
 
-// Adds the page in a reply to the listing, or shows a refusal. Without `--json`, shows the page at once.
+// Adds the page in a reply to the listing, and returns `None`. Without `--json`, shows the page at once. If
+// the reply refuses the call, shows the refusal and returns the end of the program.
 fn add_page(
     rt: &HostRuntime,
     listing: &mut Listing,
@@ -45,7 +46,8 @@ fn add_page(
     Ok(None)
 }
 
-// Asks for the pages of a listing one after the other, over one connection, and shows them.
+// Asks for the pages of a listing one after the other, over one connection, and shows them. A refused page is
+// shown too, and ends the listing.
 fn walk(
     rt: &HostRuntime,
     arguments: &ArgMatches<'_>,
@@ -75,7 +77,7 @@ fn walk(
 /// - the arguments describe no call, or the socket is not found
 /// - a call is not answered
 /// - a reply is malformed, or is not a response of the method
-/// - with `--all`: the pages have no end
+/// - with `--all`: the method is not ListVolumes, `--message` is given, or the pages have no end
 /// - writing fails, or memory is refused
 pub(crate) fn run(rt: &HostRuntime, arguments: &ArgMatches<'_>) -> Result<Ended, Failure> {
     let (method, frame) = called(rt.alloc(), arguments)?;

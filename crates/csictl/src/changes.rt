@@ -15,7 +15,8 @@ use csi_codec::decode_response;
 use csi_types::{Method, Response, VolumeInfo};
 use std::alloc::{AllocError, Global};
 
-// Returns true for the methods that remove something. Their reply is OK even if there is nothing to remove.
+// Returns true for the methods that remove a volume or an attachment. The server replies OK to them even if
+// there is nothing to remove.
 fn is_removal(method: Method) -> bool {
     matches!(
         method,
@@ -23,9 +24,9 @@ fn is_removal(method: Method) -> bool {
     )
 }
 
-// Makes the call that the arguments describe, and returns its reply. Before a removal, looks the volume up
-// once, over the same connection. It does so only before the first try, since a try without a reply may have
-// removed the volume. If the lookup is refused, returns the refusal.
+// Makes the call that the arguments describe, and returns its reply. Before the first try of a removal, looks
+// the volume up over the same connection. There is no lookup before a later try, since an earlier try without
+// a reply may have made the removal. If the lookup is refused, returns the refusal.
 fn asked(
     rt: &HostRuntime,
     method: Method,
@@ -72,7 +73,8 @@ fn deleted(alloc: Global, arguments: &ArgMatches<'_>) -> Result<String, AllocErr
     format!(in alloc; "deleted {id}\n")
 }
 
-// Returns the line that says what was done.
+// Returns the line that says what was done, such as `deleted vol-1`. Fails if the response is not a response
+// of a change, or is a response of CreateVolume without a volume.
 fn line_of(
     alloc: Global,
     arguments: &ArgMatches<'_>,
@@ -87,8 +89,8 @@ fn line_of(
     }
 }
 
-// Returns the line for the body of a reply. The response is borrowed, so its owner makes only one call that
-// can fail.
+// Returns the line for the body of a reply. `line_of` borrows the response, so this function makes only one
+// call that can fail while it owns the response.
 fn line_of_body(
     alloc: Global,
     method: Method,
@@ -101,8 +103,8 @@ fn line_of_body(
     }
 }
 
-/// Makes the call of a change, and shows a line that says what was done, or the refusal. With `--json`, shows
-/// the reply as a line of JSON. Tries the call again while it has no reply and tries are left. For a removal,
+/// Makes the call of a change. Shows a line that says what was done, or the refusal. With `--json`, shows the
+/// reply as a line of JSON. Tries the call again while it has no reply and tries are left. For a removal,
 /// first checks that there is something to remove.
 ///
 /// # Errors

@@ -119,7 +119,8 @@ pub(crate) const TIMEOUT: &str = "timeout";
 
 static SHOW: [CommandOption; 1] = [METHOD];
 
-// The option for the path of the server's socket.
+// The option for the path of the server's socket. The module `socket` finds the path if the option is not
+// given.
 const SOCKET: CommandOption = CommandOption {
     name: "socket",
     takes: Takes::Text("PATH"),

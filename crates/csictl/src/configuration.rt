@@ -87,7 +87,7 @@ fn segments_of(alloc: Global, value: &Value) -> Result<Map, Failure> {
     Ok(segments)
 }
 
-// Returns the topology of a place, which has the segments of the place. The list is empty if there are no
+// Returns a list with one topology, the segments of the place. The list is empty if the place has no
 // segments.
 fn topology_of(alloc: Global, value: &Value) -> Result<Items<Map>, Failure> {
     let mut topology = Vec::new(alloc);
@@ -144,14 +144,15 @@ fn configuration_of(alloc: Global, body: &[u8]) -> Result<Configuration, Failure
     })
 }
 
-// Returns the path of the call. The front answers it without `csid` (docs/DEPLOY.md, "The control socket").
+// Returns the path of the method GetConfiguration. The front answers its calls without asking `csid`
+// (docs/DEPLOY.md, "The control socket").
 fn path() -> &'static str
     ensures { result.now ≡ configuration_path }
 {
     "/fomaheti.v1.Front/GetConfiguration"
 }
 
-// Makes the frame of the call. Its message is empty.
+// Makes the frame of a call of GetConfiguration, whose message is empty.
 #[tactic(auto, using(crate::proofs::Paths::is_call))]
 fn frame(alloc: Global) -> Result<Vec<u8>, AllocError> {
     let mut frame = Vec::new(alloc);

@@ -1,5 +1,5 @@
-//! A connection to a server. It gives up when the time of a try is over, and reports once if a reply takes
-//! long.
+//! A connection to a server. Its reads and writes fail when the time of a try is over. For each try that
+//! waits longer than 3 seconds, it writes one line on standard error.
 
 use crate::http2::begins_http2;
 use command_line::say;
@@ -10,7 +10,7 @@ use std::net::Shutdown;
 use std::thread;
 use std::time::{Duration, Instant};
 
-// The greatest number of waits for one read or write.
+// The greatest number of tries of one read or write, and the greatest number of tries to connect.
 const MAX_WAITS: u64 = 1 << 32;
 
 // The number of milliseconds between two tries to connect, if the server has no room for another connection.
@@ -22,12 +22,12 @@ const LONG_SECONDS: u64 = 3;
 // The token of the connection, which is the only source of events.
 const ONLY: Token = Token(0);
 
-// Returns the time from now until a moment, or `None` if there is no moment.
+// Returns the time from now until a moment: zero if the moment has passed, and `None` if there is no moment.
 fn until(moment: Option<Instant>, now: Instant) -> Option<Duration> {
     moment.map(|moment| moment.saturating_duration_since(now))
 }
 
-// Returns true if no time is left.
+// Returns true if no time is left. `None` means a time without an end.
 fn is_there(left: Option<Duration>) -> bool {
     match left {
         Some(left) => left.is_zero(),
@@ -83,7 +83,8 @@ impl<'a> Waiting<'a> {
     }
 
     // Returns how long the next wait may take: until the try times out or is to report that it waits, or
-    // `None` if neither will happen. Fails with `TimedOut` after the try has timed out.
+    // `None` if neither will happen. If the report is due, makes it first. Fails with `TimedOut` after the
+    // try has timed out.
     fn left(&mut self) -> io::Result<Option<Duration>> {
         let now = Instant::now(self.rt)?;
         let end = until(self.end, now);
@@ -107,7 +108,7 @@ pub(crate) struct Connection<'a> {
     stream: UnixStream,
     poll: Poll,
     events: Events,
-    // True if any byte was read.
+    // True after the first read that did not fail.
     has_begun: bool,
     /// True if the first bytes that were read are the bytes of an HTTP/2 server.
     pub(crate) is_http2: bool,
@@ -115,7 +116,8 @@ pub(crate) struct Connection<'a> {
     pub(crate) is_late: bool,
 }
 
-// Connects to a server, and tries again while the server has no room.
+// Connects to a server. While the server has no room for another connection, tries again every 10 ms until
+// the try times out.
 fn connect(waiting: &mut Waiting<'_>, path: &str) -> io::Result<UnixStream> {
     for turn in 0..MAX_WAITS {
         match UnixStream::connect(waiting.rt, path) {
@@ -139,8 +141,8 @@ fn watch(rt: &HostRuntime, stream: &mut UnixStream) -> io::Result<Poll> {
 }
 
 impl<'a> Connection<'a> {
-    /// Connects to the server of the socket at `path`. The first call on the connection fails with `TimedOut`
-    /// after `timeout`.
+    /// Connects to the server of the socket at `path`. Connecting and the first call fail with `TimedOut` if
+    /// together they take longer than `timeout`. `None` means no limit.
     ///
     /// # Errors
     ///
@@ -164,7 +166,8 @@ impl<'a> Connection<'a> {
         })
     }
 
-    /// Begins another call on the connection. The call fails with `TimedOut` after `timeout`.
+    /// Begins another call on the connection. The call fails with `TimedOut` after `timeout`. `None` means no
+    /// limit.
     ///
     /// # Errors
     ///
@@ -179,7 +182,8 @@ impl<'a> Connection<'a> {
         self.stream.shutdown(Shutdown::Write)
     }
 
-    // Waits until the connection is ready to be read or written.
+    // Waits until the connection can be read or written, the try times out, or it is time to report that the
+    // try waits. Fails with `TimedOut` if the try had timed out before the wait.
     fn wait(&mut self) -> io::Result<()> {
         let left = match self.waiting.left() {
             Ok(left) => left,
@@ -191,7 +195,8 @@ impl<'a> Connection<'a> {
         self.poll.poll(&mut self.events, left)
     }
 
-    // Notes if the first `count` bytes that were read are the bytes of an HTTP/2 server.
+    // After the first read of the connection, notes if its `count` bytes are the first bytes of an HTTP/2
+    // server. After later reads, does nothing.
     fn look_at(&mut self, bytes: &[u8], count: usize) {
         if !self.has_begun {
             self.has_begun = true;
@@ -200,7 +205,7 @@ impl<'a> Connection<'a> {
     }
 }
 
-// Returns true if the read or write that failed with this error can be tried again.
+// Returns true if the read or write that failed with this error can be tried again after a wait.
 fn is_to_wait(error: &io::Error) -> bool {
     matches!(error.kind(), ErrorKind::WouldBlock | ErrorKind::Interrupted)
 }

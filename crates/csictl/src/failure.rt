@@ -16,7 +16,7 @@ use thiserror::Error;
 /// The end of the program if nothing fails.
 #[derive(Clone, Copy)]
 pub(crate) enum Ended {
-    /// All calls were answered OK, or all vectors passed.
+    /// No reply refused its call, and no vector failed.
     Done,
     /// A reply refused its call, or a vector failed.
     Refused,
@@ -68,7 +68,7 @@ pub(crate) enum Failure {
     /// `--all` was given with a method other than ListVolumes.
     #[error("--all: ListVolumes alone has pages")]
     NotPaged,
-    /// The message is not an even number of hexadecimal digits.
+    /// The value of `--message` is not an even number of hexadecimal digits.
     #[error("--message: not an even number of hexadecimal digits")]
     NotHex,
     /// The value of this option is not a number in decimal digits.
@@ -98,7 +98,7 @@ pub(crate) enum Failure {
         path: String,
         line: u64,
     },
-    /// The server sent a malformed reply.
+    /// A reply of the server, or on standard input, is malformed.
     #[error("{0}")]
     Malformed(ReplyFault),
     /// The server at the socket with this path speaks HTTP/2.
@@ -107,8 +107,8 @@ pub(crate) enum Failure {
     /// The body of a reply is not a response of its method.
     #[error("the body is no response of the method")]
     BadBody,
-    /// The listing has no last page. The token of the next page is the token of the page itself, or there are
-    /// more pages than volumes can fill.
+    /// The listing has no last page: a page names itself as the next page, or 1,000,000 pages were read and
+    /// none was the last.
     #[error("the pages have no end")]
     NoEnd,
     /// The configuration has no pool with this name.
@@ -133,8 +133,8 @@ pub(crate) enum Failure {
     /// The volume is not published to any node.
     #[error("{0}: not published to any node")]
     NotPublished(String),
-    /// The system refused an operation on a file, standard output or the socket. The value has the name and
-    /// the reason.
+    /// An operation on a file, standard output or the socket failed, or a call got no reply. The value has
+    /// the name of the file or the socket, and the reason.
     #[error("{0}")]
     System(Cause),
     /// Standard input could not be read.
@@ -143,7 +143,8 @@ pub(crate) enum Failure {
     /// Standard output could not be written.
     #[error("a write to standard output failed")]
     WriteFailed,
-    /// The reader of standard output has gone. The program ends without a line.
+    /// The reader of standard output has gone. The program ends with exit status 0, without a line on
+    /// standard error.
     #[error("the reader of standard output has gone")]
     ReaderGone,
     /// Memory is refused.
@@ -168,8 +169,8 @@ impl Failure {
         }
     }
 
-    /// Returns the failure of a write to standard output: [`Failure::ReaderGone`] if its reader has closed
-    /// it.
+    /// Returns the failure of a write to standard output: [`Failure::ReaderGone`] if the reader of standard
+    /// output has closed it, otherwise as [`Failure::system`].
     pub(crate) fn output(alloc: Global, error: &io::Error) -> Failure {
         match error.kind() {
             ErrorKind::BrokenPipe => Failure::ReaderGone,
@@ -177,7 +178,8 @@ impl Failure {
         }
     }
 
-    /// Returns a failure with the name of a file or socket, and the reason `why`.
+    /// Returns a failure with the name of a file or socket, and the reason `why`, or [`Failure::NoMemory`] if
+    /// memory is refused.
     pub(crate) fn named<T: Display>(alloc: Global, name: &str, why: &T) -> Failure {
         match cause(alloc, name, why) {
             Ok(cause) => Failure::System(cause),

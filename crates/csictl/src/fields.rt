@@ -79,7 +79,7 @@ fn fields_of(method: Method) -> &'static [&'static str] {
     }
 }
 
-// Returns true if the option is given.
+// Returns true if the option is given: `--readonly` as a flag, or any other option with a value.
 fn is_given(arguments: &ArgMatches<'_>, name: &str) -> bool {
     if name == "readonly" {
         arguments.get_flag(name)
@@ -111,7 +111,7 @@ pub(crate) fn give_none(arguments: &ArgMatches<'_>) -> Result<(), Failure> {
     Ok(())
 }
 
-// Makes a list of the item, or an empty list for `None`.
+// Makes a list with one item, or an empty list for `None`.
 fn list_of<T: Drop>(alloc: Global, item: Option<T>) -> Result<Items<T>, FieldFault> {
     let mut list = Vec::new(alloc);
     if let Some(item) = item {
@@ -120,7 +120,8 @@ fn list_of<T: Drop>(alloc: Global, item: Option<T>) -> Result<Items<T>, FieldFau
     Ok(Items::from_vec(list))
 }
 
-// Returns the range of sizes, or `None` if neither bound is given.
+// Returns the range of sizes in bytes, in which a bound that is not given is 0. Returns `None` if neither
+// bound is given.
 fn range_of(required: Option<i64>, limit: Option<i64>) -> Option<CapacityRange> {
     if required.is_none() && limit.is_none() {
         return None;
@@ -237,7 +238,8 @@ impl<'m, 'a> Fields<'m, 'a> {
         self.arguments.get_one::<i32>("max").unwrap_or(0)
     }
 
-    /// Returns the range of sizes, or `None` if neither bound is given.
+    /// Returns the range of sizes in bytes, in which a bound that is not given is 0. Returns `None` if
+    /// neither bound is given.
     pub(crate) fn range(&self) -> Option<CapacityRange> {
         self.range
     }

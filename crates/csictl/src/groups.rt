@@ -21,7 +21,7 @@ pub(crate) enum GroupedBy {
 // does not have has one group for each topology of its volumes.
 #[derive(Drop)]
 struct Group {
-    // The id of the node or the name of the pool; empty if a volume does not say its pool.
+    // The id of the node or the name of the pool. It is empty for volumes whose context names no pool.
     name: Text,
     // The topologies of the pool, as one word and as a JSON array. For a node, the word is `-` and the array
     // is empty.
@@ -113,7 +113,7 @@ impl Group {
         }
     }
 
-    // Writes the kept ids of the volumes with commas between them, or `-` if there are none.
+    // Returns the kept ids of the volumes with commas between them, or `-` if there are none.
     fn ids_word(&self, alloc: Global) -> Result<String, AllocError> {
         let mut out = String::new(alloc);
         for id in &self.ids {
@@ -123,7 +123,7 @@ impl Group {
         or_dash(out)
     }
 
-    // Writes the greatest number of volumes of a node, or `-` if it is not known.
+    // Returns the greatest number of volumes of a node, or `-` if it is not known.
     fn most_word(&self, alloc: Global) -> Result<String, AllocError> {
         match self.most {
             Some(most) => format!(in alloc; "{most}"),
@@ -174,8 +174,9 @@ impl Group {
         Ok(Value::Array(array))
     }
 
-    // Makes a JSON object with the members that nodes and pools share: the id or name, under the key `name`,
-    // the number of volumes, and the sum of their bytes.
+    // Makes a JSON object with the members that nodes and pools share: the id of the node or the name of the
+    // pool, the number of volumes, and the sum of their bytes. The argument `name` is the key of the first
+    // member.
     fn sums(&self, alloc: Global, name: &str) -> Result<Map<String, Value>, AllocError> {
         let mut object = Map::new(alloc);
         let text = Value::try_from_str(alloc, self.name.as_str())?;
@@ -224,8 +225,8 @@ impl Taker for Groups {
 }
 
 impl Groups {
-    /// Makes a group without volumes for each pool or node of the configuration. Without a configuration,
-    /// there are no groups yet.
+    /// Makes a group without volumes for each node of the configuration, or for each pool if `by` is
+    /// [`GroupedBy::Pool`]. Without a configuration, there are no groups yet.
     ///
     /// # Errors
     ///
@@ -347,7 +348,7 @@ impl Groups {
         }
     }
 
-    /// Writes a table with a line of headings and a line for each group.
+    /// Returns a table as a text, with a line of headings and a line for each group.
     ///
     /// # Errors
     ///
@@ -360,7 +361,7 @@ impl Groups {
         table.text(alloc)
     }
 
-    /// Writes the groups as a JSON array.
+    /// Returns the groups as a JSON array.
     ///
     /// # Errors
     ///
@@ -376,7 +377,7 @@ impl Groups {
         Ok(Value::Array(array))
     }
 
-    /// Writes a JSON object with one member, the array of the groups. Its key is `nodes` or `pools`.
+    /// Returns a JSON object with one member, the array of the groups. Its key is `nodes` or `pools`.
     ///
     /// # Errors
     ///

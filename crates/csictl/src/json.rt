@@ -46,12 +46,12 @@ fn named(alloc: Global, names: &[&str], number: i32) -> Json {
     }
 }
 
-// Writes an `int64`, which is a text in JSON.
+// Returns an `int64` in JSON, which is a text of decimal digits.
 fn int64(alloc: Global, number: i64) -> Json {
     Ok(Value::from(format!(in alloc; "{number}")?))
 }
 
-/// Adds a member to an object.
+/// Adds a member with this key and value to a JSON object.
 ///
 /// # Errors
 ///
@@ -83,7 +83,7 @@ fn object(alloc: Global, map: &TextMap) -> Json {
     Ok(Value::Object(object))
 }
 
-/// Writes topologies as an array of their segments.
+/// Returns topologies as a JSON array. Each topology is an object with its `segments`.
 pub(crate) fn topologies(alloc: Global, topologies: &Items<TextMap>) -> Json {
     let mut array = Vec::new(alloc);
     for segments in topologies {
@@ -111,7 +111,8 @@ fn status(alloc: Global, nodes: Option<&Items<Text>>) -> Json {
     }
 }
 
-/// Writes an entry of a listing: a volume, and the nodes that it is published to.
+/// Returns an entry of a listing as a JSON object: a volume, and the nodes that it is published to. A volume
+/// or nodes that the entry lacks are `null`.
 pub(crate) fn entry(alloc: Global, entry: &Entry) -> Json {
     json!(in alloc; {
         "volume": volume(alloc, entry.volume.as_ref())?,
@@ -119,7 +120,7 @@ pub(crate) fn entry(alloc: Global, entry: &Entry) -> Json {
     })
 }
 
-/// Writes a listing of these entries, with the token of the next page. The token is empty after the last
+/// Returns a JSON object of these entries and the token of the next page. The token is empty after the last
 /// page.
 pub(crate) fn listing(alloc: Global, entries: Vec<Value>, token: &str) -> Json {
     json!(in alloc; {"entries": entries, "nextToken": token})
@@ -168,8 +169,8 @@ fn validated(alloc: Global, found: Option<&Confirmed>, message: &Text) -> Json {
     json!(in alloc; {"confirmed": found, "message": message.as_str()})
 }
 
-// Writes capabilities. Each is a message with one field of this name, whose `type` is a number of an
-// enumeration.
+// Returns capabilities as a JSON object. Each capability is an object with the key `field`. Its value is
+// `null`, or an object whose `type` is a name in `names` or, for a number without a name, the number.
 fn capabilities(alloc: Global, field: &str, names: &[&str], types: &Items<Option<i32>>) -> Json {
     let mut array = Vec::new(alloc);
     for number in types {
@@ -198,7 +199,7 @@ fn ready(alloc: Global, ready: Option<bool>) -> Json {
     json!(in alloc; {"ready": ready})
 }
 
-/// Writes a response as a JSON object with the names of the CSI specification.
+/// Returns a response as a JSON object with the names of the CSI specification.
 pub(crate) fn response(alloc: Global, response: &Response) -> Json {
     match response {
         Response::PluginInfo { name, version } => {
@@ -223,7 +224,8 @@ pub(crate) fn response(alloc: Global, response: &Response) -> Json {
     }
 }
 
-/// Writes a refusal as `google.rpc.Status`. Its text has only ASCII characters.
+/// Returns a refusal as a `google.rpc.Status` in JSON, with the status of the reply as `code` and its text as
+/// `message`. The text of a reply has only ASCII characters.
 pub(crate) fn refusal(alloc: Global, reply: &Reply<'_>) -> Json {
     let message = str::from_utf8(reply.text).unwrap_or("");
     json!(in alloc; {"code": reply.status, "message": message})

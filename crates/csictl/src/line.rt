@@ -56,7 +56,8 @@ impl<'a> Wire<'a> {
         }
     }
 
-    // Sends a call on a connection and receives its reply.
+    // Sends a call on a connection and receives its reply. If the connection is not kept, ends its sending
+    // side after the call.
     fn ask(&self, connection: &mut Connection<'_>, frame: &[u8]) -> io::Result<Received> {
         send(connection, frame)?;
         if !self.is_kept {
@@ -68,7 +69,8 @@ impl<'a> Wire<'a> {
         }
     }
 
-    // Sends a call on the kept connection or a new one, and receives its reply.
+    // Sends a call on the kept connection or a new one, and receives its reply. Keeps the connection if
+    // `is_kept` is true and a reply came.
     fn converse(&mut self, frame: &[u8]) -> io::Result<Received> {
         let mut connection = self.connection()?;
         let received = self.ask(&mut connection, frame)?;
@@ -94,7 +96,7 @@ pub(crate) struct SocketLine<'a> {
 
 impl<'a> SocketLine<'a> {
     /// Makes a client of the server at the socket with this path. If `is_kept` is true, calls share one
-    /// connection, otherwise each call has its own.
+    /// connection, until a try has no reply. Otherwise each try has its own connection.
     pub(crate) fn new(
         rt: &'a HostRuntime,
         path: &'a str,
@@ -137,7 +139,7 @@ impl<'a> SocketLine<'a> {
         }
     }
 
-    // Resets the counts of tries before a call.
+    // Forgets the tries of the last call, before a new call begins.
     fn begin(&mut self)
         ensures { self.new.exchanges.made ≡ 0 }
     {
@@ -161,7 +163,8 @@ impl<'a> SocketLine<'a> {
         }
     }
 
-    // Reports why the last try was not answered, and waits before the next try.
+    // Reports why the last try was not answered, and waits before the next try, for 50 ms to 2 s
+    // ([`pause_millis`]).
     fn report_and_wait(&self, why: &Unanswered) {
         let rt = self.wire.rt;
         let tried = u32::try_from(self.exchanges.made).unwrap_or(u32::MAX);

@@ -59,7 +59,7 @@ fn volumes_text(alloc: Global, entries: &[Entry]) -> Result<String, AllocError> 
     table.text(alloc)
 }
 
-// Writes all fields of an entry, each on a line.
+// Returns all fields of an entry, each on a line.
 fn entry_text(alloc: Global, entry: &Entry) -> Result<String, AllocError> {
     let volume = entry.volume.as_ref();
     let mut table = Table::new(alloc);
@@ -85,7 +85,7 @@ fn volume_text(
     }
 }
 
-// Writes the volumes that the options select, as a table or, with `--json`, as one line of JSON.
+// Returns the volumes that the options select, as a table or, with `--json`, as one line of JSON.
 fn volumes_shown(
     alloc: Global,
     arguments: &ArgMatches<'_>,

@@ -11,9 +11,9 @@ use csi_rules::number_of_id;
 use csi_types::{Entry, Method, Text};
 use std::alloc::{AllocError, Global};
 
-// Returns the token of the page that begins with this volume: the volume's number minus 1, in decimal. For
-// volume 1, and for a text that is not an id, returns the empty token, whose page begins with the first
-// volume.
+// Returns the token of the page that begins with this volume if it exists: the volume's number minus 1, in
+// decimal. For volume 1, and for a text that is not an id, returns the empty token, whose page begins with
+// the first volume.
 fn token_before(alloc: Global, id: &str) -> Result<Text, AllocError> {
     let before = number_of_id(id).unwrap_or(0).saturating_sub(1);
     if before == 0 {
@@ -45,7 +45,7 @@ pub(crate) fn entry_of<'e>(entries: &'e [Entry], id: &str) -> Option<&'e Entry> 
     None
 }
 
-/// Returns true if the volume has this id.
+/// Returns true if the entry's volume has this id, and false if the entry has no volume.
 pub(crate) fn has_id(entry: &Entry, id: &str) -> bool {
     match &entry.volume {
         Some(volume) => volume.id.as_str() == id,
@@ -82,7 +82,7 @@ fn is_published(entry: &Entry) -> bool {
     }
 }
 
-// Checks that a volume is published to the node, or to any node if `node` is `None`.
+// Checks that a volume is published to the node, or to at least one node if `node` is `None`.
 fn check_published(
     alloc: Global,
     entry: &Entry,
@@ -116,9 +116,10 @@ fn check(
     Ok(())
 }
 
-/// Checks that there is something to remove. DeleteVolume needs the volume. ControllerUnpublishVolume also
-/// needs its attachment to the node, or any attachment if no node is given. The check asks for a page of one
-/// entry. If the server refuses the page, returns the refusal.
+/// Checks by a page of one entry that there is something to remove, and returns `None`. DeleteVolume needs
+/// the volume. ControllerUnpublishVolume also needs an attachment of the volume: to the node in the
+/// arguments, or to any node if they name none. If the server refuses the page for another reason than its
+/// token, returns the refusal.
 ///
 /// # Errors
 ///

@@ -90,7 +90,7 @@ fn validate(fields: &Fields<'_, '_>) -> Result<Validate, FieldFault> {
     })
 }
 
-// Boxes a request. The type of the request follows from the caller.
+// Boxes the message of a request, or returns the fault.
 fn boxed<M: Drop>(alloc: Global, message: Result<M, FieldFault>) -> Result<Boxed<M>, FieldFault> {
     Ok(Boxed::new(alloc, message?)?)
 }
@@ -236,7 +236,7 @@ pub(crate) fn check_paged(method: Method, arguments: &ArgMatches<'_>) -> Result<
     Ok(())
 }
 
-/// Makes an empty listing that begins at the token in `--token`.
+/// Makes an empty listing that begins at the token in `--token`, or with the first volume without the option.
 ///
 /// # Errors
 ///
@@ -254,12 +254,12 @@ fn page_request(alloc: Global, max_entries: i32, token: &Text) -> Result<Request
     Ok(Request::List(Boxed::new(alloc, request)?))
 }
 
-/// Makes the frame of the call for the page after a token, with at most `max_entries` entries. If
-/// `max_entries` is 0, the server chooses the number.
+/// Makes the frame of the call for the page after a token, or for the first page if the token is empty, with
+/// at most `max_entries` entries. If `max_entries` is 0, the server chooses the number.
 ///
 /// # Errors
 ///
-/// If the token is longer than a message, or memory is refused.
+/// If the message would have more than 1,048,576 bytes because of a long token, or memory is refused.
 pub(crate) fn page(alloc: Global, max_entries: i32, token: &Text) -> Result<Vec<u8>, Failure> {
     let request = page_request(alloc, max_entries, token)?;
     let message = encoded(alloc, &request)?;

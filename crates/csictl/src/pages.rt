@@ -20,10 +20,11 @@ const FULL_PAGE: i32 = 0;
 
 /// A taker of the entries of a listing, one after the other.
 pub(crate) trait Taker {
-    /// Forgets all entries. The listing begins again, and will give all entries again.
+    /// Forgets the entries that were taken. The function is called before each walk over the pages, and a
+    /// walk gives all entries.
     fn restart(&mut self);
 
-    /// Takes the next entry.
+    /// Takes the next entry, in the order of the listing.
     ///
     /// # Errors
     ///
@@ -44,7 +45,7 @@ impl Taker for Vec<Entry> {
 /// The outcome of a listing, page by page.
 #[derive(Drop)]
 pub(crate) enum Walked {
-    /// The entries of all pages were taken.
+    /// The entries of each page that was asked for were taken.
     All,
     /// The server refused a page for another reason than its token.
     Refused(ReceivedReply),
@@ -52,8 +53,8 @@ pub(crate) enum Walked {
     Outdated(ReceivedReply),
 }
 
-// Returns the entries and the next token of a page, or `None` if the response is not a page. The response is
-// moved, so no call here can fail.
+// Returns the entries and the next token of a page, or `None` if the response is not a page. The function
+// moves the parts out of the response, and makes no call that can fail.
 fn parts(response: Response) -> Option<(Items<Entry>, Text)> {
     match response {
         Response::List { entries, token } => Some((entries, token)),
@@ -130,8 +131,9 @@ fn walk_once<T: Taker>(
     Err(Failure::NoEnd)
 }
 
-/// Asks for all pages of ListVolumes, and begins again with the first page if a token is no longer valid. The
-/// taker has all entries if the outcome is [`Walked::All`].
+/// Asks for all pages of ListVolumes, and begins again with the first page if a token is no longer valid. If
+/// this happens five times, returns [`Walked::Outdated`]. The taker has all entries if the outcome is
+/// [`Walked::All`].
 ///
 /// # Errors
 ///
@@ -155,7 +157,8 @@ pub(crate) fn walk<T: Taker>(
 ///
 /// # Errors
 ///
-/// If the call has no reply, the reply is malformed or not a page, or memory is refused.
+/// If the call has no reply, the reply is malformed or not a page, the next page has the token of this page,
+/// or memory is refused.
 pub(crate) fn first_entry<T: Taker>(
     alloc: Global,
     token: Text,

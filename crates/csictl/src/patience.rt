@@ -8,7 +8,7 @@ use clap::ArgMatches;
 use command_line::is_decimal;
 use std::time::Duration;
 
-/// The greatest number of tries of a call, and the time limit of each try.
+/// The greatest number of tries of a call, and the time limit of each try. `None` means no time limit.
 #[derive(Clone, Copy)]
 pub(crate) struct Patience {
     pub(crate) tries: u32,

@@ -37,7 +37,7 @@ pub(crate) fn write(rt: &HostRuntime, shown: &[u8]) -> Result<(), Failure> {
     }
 }
 
-/// Writes the value as one line of JSON.
+/// Returns the value as one line of JSON.
 ///
 /// # Errors
 ///
@@ -48,7 +48,7 @@ pub(crate) fn line(alloc: Global, value: &Value) -> Result<String, AllocError> {
     Ok(line)
 }
 
-/// Shows a reply as lines: its status and body, and the fields of the body.
+/// Shows a reply as lines: first its status with its body or its text, then the fields of the body.
 ///
 /// # Errors
 ///
@@ -70,8 +70,8 @@ pub(crate) fn show_lines(
     Ok(Ended::with(reply.status != 0))
 }
 
-// Writes the response in a body as a line of JSON. The response is borrowed, so its owner makes only one call
-// that can fail.
+// Returns the response in a body as a line of JSON. `response_line` borrows the response, so this function
+// makes only one call that can fail while it owns the response.
 fn body_line(alloc: Global, method: Method, body: &[u8]) -> Result<String, Failure> {
     match decode_response(alloc, method, body) {
         Ok(response) => response_line(alloc, &response),
@@ -109,7 +109,7 @@ pub(crate) fn show_json(
     Ok(Ended::with(is_refused))
 }
 
-/// Writes all entries of a listing as a line of JSON.
+/// Returns all entries of a listing as a line of JSON.
 ///
 /// # Errors
 ///
@@ -123,7 +123,7 @@ pub(crate) fn entries_line(alloc: Global, entries: &[Entry]) -> Result<String, A
     line(alloc, &value)
 }
 
-/// Writes one entry of a listing as a line of JSON.
+/// Returns one entry of a listing as a line of JSON.
 ///
 /// # Errors
 ///
@@ -137,7 +137,8 @@ pub(crate) fn entry_line(alloc: Global, entry: &Entry) -> Result<String, AllocEr
 #[derive(Drop)]
 pub(crate) struct Listing {
     entries: Vec<Value>,
-    /// The token of the next page. It is empty after the last page.
+    /// The token of the next page. It is empty after the last page, and for a first page that begins with the
+    /// first volume.
     pub(crate) token: Text,
 }
 
@@ -182,7 +183,8 @@ impl Listing {
         Ok(())
     }
 
-    /// Ends the listing. If `is_json` is true, shows all entries as one line of JSON.
+    /// Ends the listing. If `is_json` is true, shows all entries as one line of JSON. Otherwise shows
+    /// nothing, since each page was shown when it came.
     ///
     /// # Errors
     ///

@@ -36,7 +36,8 @@ fn obey_person(rt: &HostRuntime, name: &str, arguments: &ArgMatches<'_>) -> Resu
     }
 }
 
-/// Runs the program. Without arguments, it prints the help if standard input is a terminal.
+/// Runs the program. Without arguments, it prints the help if standard input is a terminal, and otherwise
+/// shows the replies on standard input.
 ///
 /// # Errors
 ///

@@ -12,7 +12,8 @@ struct Unit {
     bytes: u64,
 }
 
-// The units of a size, with the names that kubectl uses. No unit in the list ends with an earlier unit.
+// The units of a size, with the names that kubectl uses. No unit in the list ends with an earlier unit, so
+// the first unit at the end of a text is the unit of the text.
 const UNITS: [Unit; 13] = [
     Unit {
         name: "Ki",
@@ -83,7 +84,8 @@ fn number_of(digits: &str) -> Option<u64> {
     digits.parse::<u64>().ok()
 }
 
-// Parses a number with at most one digit after a point, and returns its tenths.
+// Parses a number with at most one digit after a point, and returns the number of its tenths: 15 for `1.5`.
+// Returns `None` for any other text.
 fn tenths_of(number: &str) -> Option<u64> {
     let Some((whole, tenth)) = number.split_once('.') else {
         return number_of(number)?.checked_mul(10);
@@ -96,8 +98,8 @@ fn tenths_of(number: &str) -> Option<u64> {
         .checked_add(number_of(tenth)?)
 }
 
-// Returns a number of units in bytes. Returns `None` if the text is not a number, or the result is not a
-// whole number of bytes below 2^63.
+// Returns a number of units in bytes. One space at the end of the number is allowed. Returns `None` if the
+// text is not a number, or the result is not a whole number of bytes below 2^63.
 fn units_of(number: &str, unit: u64) -> Option<i64> {
     let number = number.strip_suffix(' ').unwrap_or(number);
     if let Some(units) = number_of(number) {
@@ -110,7 +112,7 @@ fn units_of(number: &str, unit: u64) -> Option<i64> {
     i64::try_from(tenths / 10).ok()
 }
 
-// Returns the bytes of a size whose unit is written without a `B` at its end.
+// Returns the bytes of a size: a number with a unit of `UNITS`, with the unit `B`, or without a unit.
 fn bytes_of_plain(text: &str) -> Option<i64> {
     for unit in &UNITS {
         if let Some(number) = text.strip_suffix(unit.name) {
@@ -130,8 +132,8 @@ pub(crate) fn bytes_of(text: &str) -> Option<i64> {
     }
 }
 
-/// Writes a size in the greatest binary unit that shows it exactly with at most one decimal, such as `1.5
-/// GiB`. Writes a negative size in bytes.
+/// Returns a size as a text in the greatest binary unit that shows it exactly with at most one decimal, such
+/// as `1.5 GiB`. A negative size is in bytes.
 pub(crate) fn size_text(alloc: Global, bytes: i64) -> Result<String, AllocError> {
     match u64::try_from(bytes) {
         Ok(count) => command_line::size_text(alloc, count),

@@ -21,10 +21,10 @@ use csi_types::{Entry, Method, Response, Text};
 use serde_json::{Map, Value};
 use std::alloc::{AllocError, Global};
 
-// The calls that return the name of the server and whether it is ready.
+// The calls that return the name and the version of the server, and if it is ready.
 const SERVER_CALLS: [Method; 2] = [Method::GetPluginInfo, Method::Probe];
 
-// What `csictl status` shows.
+// The server's name, version and readiness, the sums over its volumes, and the use of its pools and nodes.
 #[derive(Drop)]
 struct Status {
     // The name and the version of the plugin, from GetPluginInfo.
@@ -71,7 +71,8 @@ impl Places {
         self.nodes.count(alloc, entry)
     }
 
-    // Writes a table of the pools and a table of the nodes, each after an empty line.
+    // Returns a table of the pools and a table of the nodes as one text. Each table comes after an empty
+    // line.
     fn text(&self, alloc: Global) -> Result<String, AllocError> {
         let pools = self.pools.text(alloc)?;
         let nodes = self.nodes.text(alloc)?;
@@ -134,7 +135,8 @@ impl Status {
         }
     }
 
-    // Writes the lines about the server itself, and the lines with the sums over all volumes.
+    // Returns the lines with the server's name, version and readiness, and the lines with the sums over all
+    // volumes.
     fn sums_text(&self, alloc: Global) -> Result<String, AllocError> {
         let name = word(alloc, self.name.as_str())?;
         let version = word(alloc, self.version.as_str())?;
@@ -201,8 +203,8 @@ fn ask_server(
     Ok(None)
 }
 
-// Makes all calls of `csictl status` over one connection. A refused call for the configuration is no refusal
-// of the command.
+// Makes all calls of `csictl status` over one connection. If the call for the configuration is refused, the
+// status has no pools and no nodes, and the command is not refused.
 fn ask(alloc: Global, line: &mut SocketLine<'_>) -> Result<Outcome, Failure> {
     let mut status = Status::new(alloc);
     if let Some((method, reply)) = ask_server(alloc, &mut status, line)? {

@@ -8,7 +8,7 @@ use std::alloc::{AllocError, Global};
 // The key in a volume's context under which `csid` puts the name of the pool.
 const POOL: &str = "pool";
 
-/// Writes the pairs of a map as one word, with commas between them, or `-` if the map is empty.
+/// Returns the pairs of a map as one word, with commas between them, or `-` if the map is empty.
 ///
 /// # Errors
 ///
@@ -24,7 +24,7 @@ pub(crate) fn pairs_word(alloc: Global, pairs: &Map) -> Result<String, AllocErro
     or_dash(out)
 }
 
-/// Writes topologies as one word, with semicolons between them, or `-` if there are none.
+/// Returns topologies as one word, with semicolons between them, or `-` if there are none.
 ///
 /// # Errors
 ///
@@ -41,8 +41,8 @@ pub(crate) fn topologies_word(
     or_dash(out)
 }
 
-/// Writes the ids of the nodes that a volume is published to as one word, with commas between them, or `-` if
-/// there are none.
+/// Returns the ids of the nodes that a volume is published to as one word, with commas between them, or `-`
+/// if there are none.
 ///
 /// # Errors
 ///
@@ -59,7 +59,7 @@ pub(crate) fn nodes_word(alloc: Global, nodes: Option<&Items<Text>>) -> Result<S
     or_dash(out)
 }
 
-/// Writes the id of a volume as a word, or `-` without a volume.
+/// Returns the id of a volume as a word, or `-` without a volume.
 ///
 /// # Errors
 ///
@@ -71,7 +71,7 @@ pub(crate) fn id_word(alloc: Global, volume: Option<&VolumeInfo>) -> Result<Stri
     }
 }
 
-/// Writes the size of a volume in the greatest unit that shows it exactly, or `-` without a volume.
+/// Returns the size of a volume with a unit, such as `1.5 GiB` ([`size_text`]), or `-` without a volume.
 ///
 /// # Errors
 ///
@@ -83,7 +83,7 @@ pub(crate) fn size_word(alloc: Global, volume: Option<&VolumeInfo>) -> Result<St
     }
 }
 
-/// Writes the topologies of a volume as one word, with semicolons between them, or `-` if there are none.
+/// Returns the topologies of a volume as one word, with semicolons between them, or `-` if there are none.
 ///
 /// # Errors
 ///
@@ -113,7 +113,7 @@ pub(crate) fn pool_of(volume: &VolumeInfo) -> &str {
     value_of(&volume.context, POOL)
 }
 
-/// Writes the name of a volume's pool as a word, or `-` if the context does not name it or there is no
+/// Returns the name of a volume's pool as a word, or `-` if the context does not name it or there is no
 /// volume.
 ///
 /// # Errors
@@ -126,7 +126,8 @@ pub(crate) fn pool_word(alloc: Global, volume: Option<&VolumeInfo>) -> Result<St
     }
 }
 
-/// Writes the context of a volume as one word, with commas between its pairs, or `-` if the context is empty.
+/// Returns the context of a volume as one word, with commas between its pairs, or `-` if the context is
+/// empty.
 ///
 /// # Errors
 ///

@@ -75,13 +75,13 @@ pub(crate) type Remote = Through<MemKeeper, RemoteChangeStore<ChangeStorePeer>>;
 pub(crate) struct OpenChangeStore {
     /// The keeper over which calls are answered.
     pub(crate) keeper: Remote,
-    /// A handle of the connection to the change store. It serves to ask whether the change store leads.
+    /// A handle of the connection to the change store. It serves to ask the change store if it leads.
     /// `keeper` has other handles of the same connection.
     pub(crate) stream: TimedStream,
     /// True if a frame was sent to the change store since the last reply to a client.
     pub(crate) is_asked: Rc<Cell<bool>>,
-    /// True if a reply to a client was held back because the change store did not lead. The next connection
-    /// then reads the volumes again.
+    /// True if a reply to a client was held back because the change store did not answer that it leads. The
+    /// volumes are then read again for the next client.
     pub(crate) is_cut: bool,
 }
 
@@ -100,7 +100,7 @@ impl OpenChangeStore {
     /// Returns true if calls may be answered from the copy in memory. These conditions must hold:
     ///
     /// - the copy has each change
-    /// - no change was refused
+    /// - no change failed
     /// - no reply was held back
     /// - the change store answers that it leads
     pub(crate) fn is_usable(&self, alloc: Global) -> bool
@@ -118,7 +118,8 @@ fn is_agreed(received: Received) -> bool
     matches!(received, Received::Reply(reply) if reply.status == 0)
 }
 
-// Returns true if a change store answers that it leads.
+// Returns true if a change store answers that it leads, and false if it does not or memory for the request is
+// refused.
 fn is_leading<P: Peer>(alloc: Global, change_store: &mut P) -> bool
     ensures { IsTrue result → Leads P.exchanged change_store.old change_store.new }
 {
@@ -129,7 +130,9 @@ fn is_leading<P: Peer>(alloc: Global, change_store: &mut P) -> bool
 }
 
 /// Asks the change store at the other end of a connection if it leads, and returns true if it answers yes.
-/// Then no other change store has made a change, and a copy that has each change of this program is current.
+/// After this answer, no other change store has made a change since the rows were read over this connection,
+/// since a change store that stops leading closes its connections. A copy that has each change of this
+/// program is then current.
 pub(crate) fn leads(alloc: Global, stream: &TimedStream) -> bool {
     stream.deadline().begin_exchange();
     is_leading(alloc, &mut Channel::new(stream, stream))
@@ -146,9 +149,10 @@ pub(crate) struct ChangeStoreLeadership<'a> {
 }
 
 impl Leadership for ChangeStoreLeadership<'_> {
-    // A change store makes a change only while it leads, so its answer to a change since the last reply shows
-    // that it leads. Without such an answer, the change store is asked: another change store may have led
-    // since, and made changes that the copy lacks.
+    // A change store makes a change only while it leads, so the change store is not asked again after the
+    // frame of a change: if it did not make the change, the reply is a refusal. If no frame was sent since
+    // the last reply, the change store is asked: another change store may have led since, and made changes
+    // that the copy lacks.
     fn holds(&mut self) -> bool {
         self.is_asked.replace(false) || leads(self.alloc, self.stream)
     }
@@ -177,7 +181,8 @@ fn rows_failure(alloc: Global, path: &str, fault: &RowsFault) -> Failure
     }
 }
 
-// Returns the program's failure for a reply that refuses a request.
+// Returns the program's failure for a reply that refuses a request. The line has the text of the reply, or a
+// fixed text if the text of the reply is not UTF-8.
 fn refusal_failure(alloc: Global, path: &str, reply: &ReceivedReply) -> Failure
     ensures { IsOrNoMemory 4 result }
 {
@@ -259,7 +264,7 @@ fn check_or_make_meta<P: Peer>(
     }
 }
 
-// Returns the fault for rows whose format is neither 1 nor 2, or unknown (`None`).
+// Returns the fault for rows whose format is neither 1 nor 2. `None` means that there is no row of `meta`.
 fn format_fault(format: Option<u64>) -> AdoptFault {
     match format {
         Some(format) if format != 0 => AdoptFault::Newer {
@@ -294,7 +299,7 @@ fn read_tables<P: Peer, S: Alter + Drop>(
 }
 
 // Reads all rows of a change store into a new database, checks them, copies the volumes into memory, and
-// reports their number. The database is dropped afterwards.
+// reports the numbers of volumes and attachments. The database is dropped afterwards.
 fn read_change_store<P: Peer + Drop, S: Alter + Drop>(
     console: &Console<'_>,
     config: &Config,
@@ -355,7 +360,8 @@ fn reach(
     Ok((stream, peer))
 }
 
-/// Connects to a change store, reads and checks its rows, and reports the number of its volumes.
+/// Connects to a change store, reads and checks its rows, and reports the numbers of its volumes and
+/// attachments.
 ///
 /// # Errors
 ///

@@ -1,5 +1,6 @@
-//! Runs `csid --check-tables`, `csid --list-tables` and `csid --copy-tables`. The path and the file are
-//! checked first, so that a file without tables is refused with the same words as by `csid serve --existing`.
+//! Runs `csid --check-tables`, `csid --list-tables` and `csid --copy-tables`. The path and the header of the
+//! file are checked before the tables are read, so that a file without tables is refused with the same words
+//! as by `csid serve --existing`.
 
 ghost use Rattle.std.specs.Prelude.{IfErr};
 ghost use Rattle.csid_settings.specs.Statuses.{IsOrNoMemory};

@@ -19,15 +19,15 @@ const CELLS_AT: usize = 103;
 
 const LEAF: u8 = 13;
 
-// The greatest number of bytes of memory that an opening takes for one byte of a row in the file, with the
-// page that is kept.
+// The greatest number of bytes of memory that an opening takes for one byte of the file: six for the row, and
+// one for the page that the opening keeps.
 const OPENING_FACTOR: u64 = 7;
 
 // The least number of pages that an opening may keep in memory.
 const LEAST_CACHE_PAGES: u64 = 2000;
 
-// The greatest number of bytes of pages that an opening keeps in memory: 64 MiB. It keeps all pages of a
-// smaller file, since it reads the index of names in random order.
+// The greatest number of bytes of pages that an opening keeps in memory: 64 MiB. The opening keeps all pages
+// of a smaller file, since it reads the index of names in random order.
 const CACHE_BYTES: u64 = 1 << 26;
 
 // If the process has a limit of memory, the pages take at most a 32nd of the limit.
@@ -170,7 +170,7 @@ fn cache_pages(rt: &HostRuntime, count: u64, page_bytes: u64) -> u64
 }
 
 /// Returns the limits of memory for opening the file of tables. They depend on the size of the file and of
-/// its WAL.
+/// its WAL. For a file that does not exist, `bytes` is 0 and `cache_pages` is 2,000.
 pub(crate) fn opening_limits(rt: &HostRuntime, path: &str) -> OpeningLimits
     ensures least { 2000 ≤ result.cache_pages }
 {
@@ -208,8 +208,8 @@ fn has_nothing(rt: &HostRuntime, path: &str) -> io::Result<bool> {
 }
 
 /// Returns the fault if the file does not exist or has no tables, as far as its header shows. The fault is
-/// `Emptied` if the WAL of an empty or missing file has changes. Returns `None` if the file cannot be read,
-/// since the opening reports the reason.
+/// `Emptied` if the WAL of an empty or missing file has changes. Returns `None` if the file has tables, and
+/// if it cannot be read, since the opening reports the reason.
 pub(crate) fn fault_of_existing(rt: &HostRuntime, path: &str) -> Option<FileFault> {
     if let Some(fault) = fault_of_wal(rt, path) {
         return Some(fault);

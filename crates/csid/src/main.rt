@@ -1,4 +1,5 @@
-//! The server: reads calls from standard input and writes replies to standard output, or serves a socket.
+//! The server: reads calls from standard input and writes replies to standard output, or serves a socket. It
+//! also checks, copies and lists tables.
 //!
 //! # Not promised
 //!

@@ -23,7 +23,8 @@ const CALL_SPACE_BYTES: u64 = 4 << 20;
 
 // A limit of memory, and how much memory the process used at the start and at the last measurement.
 struct Limit {
-    // The limit in bytes.
+    // The greatest number of bytes that the process may use: the limit of the system without the part that is
+    // left for calls.
     most: u64,
     // The bytes that the process used at the start.
     base: u64,
@@ -50,7 +51,7 @@ impl Limit {
         }
     }
 
-    // Returns true if both of these stay within the limit:
+    // Returns true if both of these stay within the limit, and records `used` as the last measurement:
     //
     // - the memory in use, if it grows again as much as since the last measurement
     // - the memory in use at the start, and the `opening` bytes of the next opening of tables
@@ -61,7 +62,8 @@ impl Limit {
     }
 }
 
-// The memory that the process uses, in bytes.
+// The memory that the process uses, in bytes: its address space, and the part of it that is in physical
+// memory.
 #[derive(Clone, Copy)]
 struct Usage {
     address_space: u64,
@@ -193,7 +195,8 @@ impl Drop for MemoryGauge {
 
 impl MemoryGauge {
     /// Reads the current limits of the control groups of the process and of its address space. A limit that
-    /// the system does not report is not applied.
+    /// the system does not report is not applied. If the system does not report the memory in use, no limit
+    /// is applied.
     pub(crate) fn new(rt: &HostRuntime) -> MemoryGauge {
         let Some(used) = used(rt) else {
             return MemoryGauge {
@@ -214,7 +217,7 @@ impl MemoryGauge {
     }
 
     /// Returns true if there is memory for calls, and for the next opening of tables, which takes `opening`
-    /// bytes.
+    /// bytes. Also returns true if no limit is known, or the memory in use cannot be measured.
     pub(crate) fn has_room(&self, opening: usize) -> bool {
         if self.address_space.is_none() && self.resident.is_none() {
             return true;

@@ -23,7 +23,7 @@ use sqlite::Unknown;
 use std::alloc::Global;
 use std::mem::forget;
 
-/// The number that the first volume gets.
+/// The number that the first volume gets if the volumes are in memory.
 pub(crate) const FIRST_NUMBER: u64 = 1;
 
 // Answers the calls on standard input over volumes in memory.
@@ -97,8 +97,8 @@ fn refused_number(alloc: Global, option: &str, number: &str) -> Failure
     Failure::Arguments(ArgumentsFault::refused(line))
 }
 
-// Returns the failure for two options that exclude each other, or for a server without an option for its
-// volumes.
+// Returns the failure for options that exclude each other, or for a missing option. `why` is the line about
+// them.
 fn refused_options(alloc: Global, why: &str) -> Failure
     ensures { IsOrNoMemory 2 result }
 {

@@ -25,7 +25,7 @@ pub(crate) struct TablesFailure {
     /// The reason why the tables cannot be opened or their file was not closed.
     pub(crate) cause: Failure,
     /// The report of the calls, if they were served but the file was not closed. The committed changes are
-    /// then in the WAL, which is next to the file.
+    /// then in the WAL next to the file, in the file, or in both.
     pub(crate) report: Option<RunReport>,
 }
 
@@ -53,7 +53,7 @@ fn refusal_failure(alloc: Global, path: &str, refusal: &Refusal) -> Failure
 }
 
 // Converts the result of a run over the files at a path: to its report, or to a failure with a text and a
-// status.
+// status. If the store refused a call, the result is the report too.
 fn outcome_of<D: Disk + Drop>(
     alloc: Global,
     path: &str,

@@ -69,7 +69,8 @@ fn bind(rt: &HostRuntime, path: &str, group: Option<u32>) -> io::Result<UnixList
     }
 }
 
-// Binds a socket at the path, to which the owner and this group may connect.
+// Binds a socket at the path, to which the owner and this group may connect. If `group` is `None`, only the
+// owner may connect.
 fn listen(rt: &HostRuntime, path: &str, group: Option<&str>) -> Result<UnixListener, Failure>
     ensures { IfErr result (λ failure. IsOrNoMemory 7 failure) }
 {
@@ -95,7 +96,7 @@ fn report_outcome(console: &Console<'_>, ending: Ending, now: Instant, end: RunE
 }
 
 // Reports how a connection ended. `ending` is the reason if the server ended the turn of the connection.
-// `is_cut` is true if a reply was held back.
+// `is_cut` is true if a reply was held back. Nothing is reported if the calls ended without a fault.
 fn report_end(console: &Console<'_>, ending: Option<Ending>, is_cut: bool, end: RunEnd) {
     let Ok(now) = Instant::now(console.rt) else {
         return;
@@ -135,8 +136,8 @@ fn turn_of<'a>(
     }
 }
 
-// Answers the calls of one connection over a keeper. Returns true if the connection ended because the change
-// store no longer leads.
+// Answers the calls of one connection over a keeper. Returns true if a reply was held back because the change
+// store did not answer that it leads.
 fn serve_one<K: Keeper, L: Leadership + Drop>(
     service: &Service<'_>,
     waiting: &mut Waiting,
@@ -160,7 +161,8 @@ fn serve_one<K: Keeper, L: Leadership + Drop>(
     writer.is_cut()
 }
 
-// Refuses a connection whose first frame is malformed, without opening the tables.
+// Answers a connection that has sent no call: its first frame is malformed, or its stream has ended before a
+// complete frame. The tables are not opened.
 fn refuse_peer(service: &Service<'_>, waiting: &mut Waiting, peer: &Pending) {
     match MemKeeper::new(service.console.rt.alloc(), FIRST_NUMBER) {
         Ok(mut keeper) => {
@@ -276,7 +278,8 @@ fn report_unavailable(console: &Console<'_>, reported: &mut String, failure: &Fa
     }
 }
 
-// Returns the open change store if calls may be answered over it. Otherwise opens it again.
+// Returns the open change store if calls may be answered over it. Otherwise connects to the change store and
+// reads its rows.
 fn existing_change_store(
     console: &Console<'_>,
     config: &Config,
@@ -303,8 +306,8 @@ fn serve_open(
 ) -> OpenChangeStore
     requires { IsUsable store }
 {
-    // A reply requires that the change store has answered a frame of this connection, and not of an earlier
-    // one.
+    // Frames that were sent for earlier clients do not count: before the first reply to this client, a frame
+    // must be sent to the change store.
     store.is_asked.set(false);
     let leading = ChangeStoreLeadership {
         stream: &store.stream,
@@ -353,7 +356,8 @@ fn report_gone(console: &Console<'_>, peer: &Pending) {
 }
 
 // Opens the tables of a server and serves the calls of a connection: first the calls in `sent`, then the
-// calls from the reader. Reports errors that no reply shows.
+// calls from the reader. Reports errors that no reply shows. Does nothing if the volumes are in a change
+// store.
 fn serve_tables<R: Read, W: Write>(
     service: &Service<'_>,
     sent: &[u8],
@@ -433,8 +437,8 @@ fn first_change_store(service: &Service<'_>) -> KnownChangeStore {
     change_store
 }
 
-// Binds the socket of a server, and then opens and checks its tables once. The socket is bound first, so that
-// a second server at the same socket does not open the file of the first.
+// Binds the socket of a server, and then opens and checks its tables once. A change store is not opened here.
+// The socket is bound first, so that a second server at the same socket does not open the file of the first.
 fn listen_over<'a>(
     console: &'a Console<'a>,
     config: &'a Config,

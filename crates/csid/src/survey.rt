@@ -77,8 +77,9 @@ fn run_without_calls<'a, S: Start>(
 }
 
 /// Opens and checks the tables in a file by a run without calls. If the file has no tables, they are made
-/// unless `file.is_existing` is true. Reports the numbers of volumes and attachments, or the reason why the
-/// tables cannot be opened. If the file cannot be closed, also reports the reason for that.
+/// unless `file.is_existing` is true. Reports the counts of the tables (volumes, attachments, next number and
+/// format), or the reason why the tables cannot be opened. If the file cannot be closed, also reports the
+/// reason for that.
 pub(crate) fn survey<'a>(console: &'a Console<'a>, config: &'a Config, file: &TablesFile<'a>) {
     let _ = run_without_calls(console, config, file, Unknown);
 }

@@ -16,7 +16,8 @@ const ROWS_SECONDS: u64 = 300;
 /// The deadlines of a connection to a change store: for the current exchange, and for the opening.
 pub(crate) struct Deadline {
     rt: HostRuntime,
-    // The deadline of the current exchange, or `None` if no exchange has begun.
+    // The deadline of the current exchange. `None` if no exchange has begun, or the clock could not be read
+    // when it began.
     exchange: Cell<Option<Instant>>,
     // The deadline of the opening, or `None` after all rows were read.
     rows: Cell<Option<Instant>>,
@@ -53,7 +54,8 @@ impl Deadline {
         })
     }
 
-    /// Begins an exchange, whose deadline is 30 seconds from now.
+    /// Begins an exchange, whose deadline is 30 seconds from now. If the clock cannot be read, the reads and
+    /// writes of the exchange fail.
     pub(crate) fn begin_exchange(&self) {
         self.exchange.set(after(&self.rt, EXCHANGE_SECONDS).ok());
     }
@@ -82,7 +84,8 @@ impl Deadline {
     }
 }
 
-/// A connection whose reads and writes fail after its deadline has passed.
+/// A connection whose reads and writes fail after its deadline has passed, and before its first exchange
+/// begins.
 pub(crate) struct TimedStream {
     stream: UnixStream,
     deadline: Rc<Deadline>,
@@ -126,7 +129,7 @@ impl TimedStream {
         })
     }
 
-    /// Returns the deadline of the connection.
+    /// Returns the deadlines of the connection, which all of its handles share.
     pub(crate) fn deadline(&self) -> &Deadline {
         &self.deadline
     }

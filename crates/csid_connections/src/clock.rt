@@ -44,9 +44,9 @@ impl Since {
 /// the reply, neither time runs until the next call.
 #[derive(Clone, Copy)]
 pub(crate) struct CallClock {
-    // The time when the peer last sent or took bytes.
+    // The period since the peer last sent or took bytes.
     active: Since,
-    // The time when the call or the reply began.
+    // The period since the call or the reply began, or `Since::Never` between two calls.
     begun: Since,
     // The time that is allowed for the whole call or reply.
     allowed: Duration,

@@ -12,9 +12,9 @@
 //! [`Waiting`] accepts connections from the socket and reads the first bytes of each, so a connection that
 //! sends nothing delays no other connection. [`Turn`] is the connection that is served. A read or a write
 //! waits only for the time that the peer may take, and polls the waiting connections during this time. The
-//! two ends of a turn, [`TurnReader`] and [`TurnWriter`], read and write the bytes of the stream in order,
-//! also after a wait. [`GuardedWriter`] writes a reply only if it holds: no other program can have changed
-//! the volumes.
+//! two ends of a turn, [`TurnReader`] and [`TurnWriter`], read and write the bytes of the stream without a
+//! gap, also after a wait. [`GuardedWriter`] writes a reply only if it holds: no other program can have
+//! changed the volumes.
 //!
 //! `specs/Waiting.antt` says when a connection leaves the queue (`Ends`, `ComesIn`), and `specs/Calling.antt`
 //! how the time of a call is counted.

@@ -19,8 +19,8 @@ pub(crate) const WANTED_SECONDS: u64 = 1;
 /// even if other connections have waited longer than [`WANTED_SECONDS`].
 pub(crate) const SHORTEST_MILLIS: u64 = 100;
 
-/// The greatest number of seconds of a turn. After this time, the connection that is served is closed between
-/// two calls, if another connection is ready.
+/// The number of seconds of a turn after which the connection that is served is closed between two calls, if
+/// another connection is ready. If no other connection is ready, the turn goes on.
 pub(crate) const TURN_SECONDS: u64 = 60;
 
 /// Returns the part of the time `longest` that is left at `now`, counted from `begun`. Returns `None` if the

@@ -54,7 +54,8 @@ pub enum Reply {
 }
 
 /// Writes replies. Before the first byte of each reply, the writer asks its [`Leadership`] if the reply
-/// holds. After a reply that does not hold, it writes nothing.
+/// holds. A flush ends a reply. If a reply does not hold, the writer writes neither this reply nor a later
+/// one.
 #[derive(Drop)]
 pub struct GuardedWriter<L, W> {
     lead: L,

@@ -48,9 +48,11 @@ pub struct FirstBytes {
     pub sent: Vec<u8>,
     /// The kind of the bytes, or `None` before the first read.
     pub start: Option<Start>,
-    // The time when the last byte came, or the time when the connection came if it has sent no byte.
+    // The time when the last byte or the end of the stream came. Before both, the time when the connection
+    // came.
     since: Instant,
-    // The time when the first byte came, or `None` before it.
+    // The time when the first byte came, or the end of the stream if no byte came before it. `None` before
+    // that.
     begun: Option<Instant>,
 }
 
@@ -136,7 +138,8 @@ impl FirstBytes {
         Ok(longest)
     }
 
-    /// Returns the time that the peer has taken for its first call, from its first byte to its last.
+    /// Returns the time that the peer has taken for the bytes of its first call, from the first byte to the
+    /// last that has come. The time is zero if no byte has come.
     pub fn spent(&self) -> Duration
         ensures { as_nanos result ≡ spent_nanos self.now }
     {
@@ -146,8 +149,8 @@ impl FirstBytes {
         }
     }
 
-    /// Returns the time when the last byte came, or the time when the connection came if it has sent no byte.
-    /// If the connection is ready, it became ready at this time.
+    /// Returns the time when the last byte or the end of the stream came. Before both, returns the time when
+    /// the connection came. If the connection is ready, it became ready at this time.
     pub fn since(&self) -> Instant
         ensures { result ≡ self.now.since }
     {

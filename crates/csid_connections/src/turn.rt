@@ -1,8 +1,8 @@
 //! The turn of a connection: its calls are read and its replies written. While the connection blocks, the
 //! queue is polled.
 //!
-//! If another connection is ready, the connection that is served is closed as soon as all its calls are
-//! answered. Until then it may delay a call or a reply only for a short time.
+//! If another connection is ready, the connection that is served is closed as soon as all calls that have
+//! come from it are answered. Until then, its peer may delay a call or a reply only for a short time.
 
 ghost use Rattle.std.specs.Prelude.{◌≡◌, Bool, true, false, Some, ⊤, OnOk};
 ghost use Rattle.std.specs.Io.{ReadsAtMost, WritesAtMost};
@@ -104,8 +104,8 @@ impl<S: Stream> Steps<'_, S> {
         io::Error::from(ErrorKind::TimedOut)
     }
 
-    // Returns how long the peer may still delay a read or a write, or the reason why the turn ends. If reads
-    // block, the peer has already been silent for a second in the read itself.
+    // Returns how long the peer may still delay a read or a write, where `None` means any time, or the reason
+    // why the turn ends. If reads block, the peer has already been silent for a second in the read itself.
     fn patience(&mut self, now: Instant) -> Result<Option<Duration>, Ending>
         ensures call { GoesOnCall self.old.clock self.new.clock }
         ensures stream { self.new.stream ≡ self.old.stream }
@@ -167,8 +167,8 @@ impl<S: Stream> Steps<'_, S> {
         Ok(())
     }
 
-    // Ends the turn during a call if the time of the call is over. Otherwise polls the queue, at most once a
-    // second.
+    // Ends the turn during a call if the time of the call is over. Otherwise polls the queue if reads may
+    // block, at most once a second.
     fn go_on_in_call(&mut self, now: Instant) -> io::Result<()>
         ensures call { GoesOnCall self.old.clock self.new.clock }
         ensures stream { self.new.stream ≡ self.old.stream }
@@ -289,7 +289,7 @@ impl<'a> Turn<'a> {
         })
     }
 
-    /// Returns the reader of the connection's calls.
+    /// Returns a reader of the connection's calls. This turn bounds how long its reads wait.
     pub fn reader(&self) -> TurnReader<'_, 'a, &'a UnixStream> {
         TurnReader {
             turn: self,
@@ -297,7 +297,7 @@ impl<'a> Turn<'a> {
         }
     }
 
-    /// Returns the writer of the connection's replies.
+    /// Returns a writer of the connection's replies. This turn bounds how long its writes wait.
     pub fn writer(&self) -> TurnWriter<'_, 'a, &'a UnixStream> {
         TurnWriter {
             turn: self,
@@ -306,7 +306,7 @@ impl<'a> Turn<'a> {
     }
 }
 
-/// Reads the calls of a connection. Returns the bytes of the stream in order, also after a wait.
+/// Reads the calls of a connection. Returns the bytes of the stream without a gap, also after a wait.
 #[derive(Drop)]
 pub struct TurnReader<'t, 'a, R> {
     turn: &'t Turn<'a>,
@@ -326,8 +326,8 @@ impl<R: Read> Read for TurnReader<'_, '_, R> {
     }
 }
 
-/// Writes the replies of a connection to its stream, in order. A write may wait until the stream takes more
-/// bytes, and then continues with the bytes that are left. A flush ends a reply.
+/// Writes the replies of a connection to its stream. A write may wait until the stream takes more bytes, and
+/// then continues with the bytes that are left. A flush ends a reply.
 #[derive(Drop)]
 pub struct TurnWriter<'t, 'a, W> {
     turn: &'t Turn<'a>,

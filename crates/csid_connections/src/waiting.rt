@@ -21,7 +21,7 @@ use std::os::unix::net::{UnixListener, UnixStream};
 use std::time::{Duration, Instant};
 
 // The greatest number of connections in the queue. If one more connection comes, the oldest connection that
-// has sent no call is closed.
+// is not ready is closed. If all are ready, no further connection is accepted.
 const MOST: usize = 256;
 
 // The greatest number of connections that one call of `look` accepts.
@@ -38,7 +38,7 @@ pub struct Waiting {
     pending: VecDeque<Pending>,
     // The number of connections that will still be accepted.
     left: u32,
-    // The time for which a connection may send nothing, or `None` for any time.
+    // The time for which a peer may send or take nothing, or `None` for any time.
     idle: Option<Duration>,
     // True if a connection or bytes came at the last look.
     is_stirring: bool,
@@ -96,7 +96,7 @@ pub fn report_ending(console: &Console<'_>, ending: Ending, now: Instant) {
 
 impl Waiting {
     /// Makes an empty queue of the connections to `listener`. The queue accepts `connections` connections in
-    /// all, and closes a connection after `idle` seconds without bytes.
+    /// all, and closes a connection after `idle` seconds without bytes. `None` means no limit.
     ///
     /// # Errors
     ///
@@ -185,7 +185,7 @@ impl Waiting {
         Ok(Pending::new(alloc, stream, now))
     }
 
-    // Returns the index of the oldest connection that was read and has sent no call.
+    // Returns the index of the oldest connection that was read and is not ready, or `None` if there is none.
     fn oldest(&self) -> Option<usize>
         ensures { result ≡ position has_no_call self.now.pending.items }
     {
@@ -194,7 +194,7 @@ impl Waiting {
             .position(|it| matches!(it.first.start, Some(Start::Open)))
     }
 
-    // Closes the oldest connection that was read and has sent no call, and reports it. If there is no such
+    // Closes the oldest connection that was read and is not ready, and reports it. If there is no such
     // connection, does nothing.
     fn close_oldest(&mut self, console: &Console<'_>, now: Instant)
         ensures closed { self.new.pending.items
@@ -207,14 +207,16 @@ impl Waiting {
         }
     }
 
-    // Returns true if the queue is full and no connection in it can be replaced.
+    // Returns true if the queue is full and has no connection that can be closed for a new one.
     fn is_full(&self) -> bool
         ensures { result ≡ is_full self.now.pending.items }
     {
         self.pending.len() >= MOST && self.oldest().is_none()
     }
 
-    // Adds a connection to the queue. If 256 connections wait, first closes the oldest that has sent no call.
+    // Adds a connection to the queue. If 256 connections wait, first closes the oldest connection that was
+    // read and is not ready. If the system refuses to watch the new connection, reports the error and closes
+    // the new connection.
     fn admit(&mut self, console: &Console<'_>, stream: UnixStream, now: Instant)
         ensures bounded { is_full self.old.pending.items ≡ false
             → StayFew self.old.pending.items self.new.pending.items }
@@ -235,8 +237,8 @@ impl Waiting {
     }
 
     // Makes room after the system refused a new connection, for example for lack of descriptors. Closes the
-    // oldest connections that have sent no call, at most half of the queue. Returns the error if the queue is
-    // empty.
+    // oldest connections that were read and are not ready, at most half of the queue, rounded up. Returns the
+    // error if the queue is empty.
     fn make_room(&mut self, console: &Console<'_>, error: io::Error, now: Instant) -> io::Result<()>
         ensures bounded { length self.new.pending.items ≤ length self.old.pending.items }
         ensures room { (n : ℕ) × (n * 2 ≤ length self.old.pending.items + 1)
@@ -255,7 +257,8 @@ impl Waiting {
         Ok(())
     }
 
-    // Accepts connections that have come, at most `AT_ONCE` of them.
+    // Accepts connections that have come, at most `AT_ONCE` of them. Accepts none while the queue is full, or
+    // after the last connection that the queue may accept.
     fn accept_some(&mut self, console: &Console<'_>, now: Instant) -> io::Result<()>
         ensures bounded { StayFew self.old.pending.items self.new.pending.items }
         ensures takes { TakesIn now self.old.pending.items self.new.pending.items
@@ -312,8 +315,8 @@ impl Waiting {
         }
     }
 
-    // Reads from each connection of the queue, in order. Closes and reports the connections that failed or
-    // were silent for too long.
+    // Reads from each connection of the queue, the oldest first. Closes and reports the connections that
+    // failed, were silent for too long, or did not complete their first call in time.
     fn receive_all(&mut self, console: &Console<'_>, now: Instant)
         ensures looks { LooksAt self.old.idle self.old.left now
             self.old.pending.items self.new.pending.items }
@@ -384,7 +387,8 @@ impl Waiting {
     }
 
     /// Waits for the first of these events: a connection or bytes come, a connection of the queue must be
-    /// closed, or the time `longest` is over. Returns at once if the last look found a connection or bytes.
+    /// closed, the console must write its counts of ended connections, or the time `longest` is over. `None`
+    /// means no time limit. Returns at once if the last look found a connection or bytes.
     ///
     /// # Errors
     ///

@@ -21,7 +21,7 @@ const FEW: u32 = 10;
 
 const SECOND_MILLIS: u64 = 1000;
 
-// The number of ways in which a connection ends, each of which is counted.
+// The number of ways in which a connection ends: the variants of [`Ending`].
 const WAYS: usize = 7;
 
 /// The way in which a connection ended before all its calls were read and answered.
@@ -34,7 +34,8 @@ pub enum Ending {
     Slow,
     /// The peer had closed the connection before it was served.
     Gone,
-    /// The connection had sent no call, and too many connections were waiting.
+    /// The connection had not sent a complete call, and was closed to make room: too many connections were
+    /// waiting, or the system refused a further one.
     Crowded,
     /// The connection sent a malformed frame.
     Malformed,
@@ -142,7 +143,8 @@ impl<'a> Console<'a> {
         }
     }
 
-    // Writes bytes if standard error takes them without waiting. Returns true if all bytes were written.
+    // Writes bytes if standard error takes them without waiting. Returns true if all bytes were written. If
+    // the result is false, some of the bytes may have been written.
     fn write(&self, line: &[u8]) -> bool {
         let mut stderr = self.rt.stderr();
         for part in line.chunks(PART) {
@@ -153,7 +155,8 @@ impl<'a> Console<'a> {
         true
     }
 
-    // Writes a line if standard error takes it without waiting. Returns true if it was written.
+    // Writes a line if standard error takes it without waiting. If memory for the line is refused, writes
+    // `out of memory` in its place. Returns true if the line was written completely.
     fn put<T: Display>(&self, what: &T) -> bool {
         match error_line(self.rt.alloc(), "csid", what) {
             Ok(line) => self.write(line.as_bytes()),

@@ -59,7 +59,7 @@ fn judged(
     adopted(console, path, conn, config)
 }
 
-// Writes a new file, and waits until its bytes are on the disk.
+// Writes a new file, and waits until its bytes are on the disk. Fails if a file exists at `path`.
 fn write_new(rt: &HostRuntime, path: &str, bytes: &[u8]) -> io::Result<()> {
     let mut file = OpenOptions::new()
         .write(true)
@@ -79,8 +79,8 @@ fn folder_of(path: &str) -> &str {
     }
 }
 
-// Gives a file another name, which no other file may have. If the file system makes no hard link, renames the
-// file.
+// Gives the file at `from` the name `to`. Fails if a file has this name. If the file system makes no hard
+// link, renames the file, which replaces a file at `to`.
 fn give_name(rt: &HostRuntime, from: &str, to: &str) -> io::Result<()> {
     match fs::hard_link(rt, from, to) {
         Ok(()) => fs::remove_file(rt, from),
@@ -134,8 +134,8 @@ fn write_copy(rt: &HostRuntime, to: &str, bytes: &[u8]) -> Result<(), Failure>
 ///
 /// # Errors
 ///
-/// If a file at `to` exists, the tables cannot be read or are refused, the copy or the counts cannot be
-/// written, or memory is refused.
+/// If a file exists at `to` or at the path `to` with `.new` at its end, the tables cannot be read or are
+/// refused, the copy or the counts cannot be written, or memory is refused.
 pub fn copy_tables(
     console: &Console<'_>,
     path: &str,

@@ -57,8 +57,8 @@ pub fn check_config(console: &Console<'_>, path: &str) -> Result<(), Failure> {
 }
 
 /// Adopts tables in memory: checks them under the configuration, and upgrades them to the latest format.
-/// Returns the counts that the tables had before the upgrade. If the tables are refused because of a row,
-/// reports details of this row.
+/// Returns the counts that the tables had before the upgrade. If the tables are refused because of a volume,
+/// an attachment, a pool or a node, reports details.
 ///
 /// # Errors
 ///

@@ -76,7 +76,8 @@ pub fn read_content<S: Alter>(conn: &mut Connection<S>) -> Result<Content, Error
     })
 }
 
-/// Reports the counts of the tables in the file at `path`, or why they could not be read.
+/// Reports the counts of tables, or why they could not be read. The line has `path` as the name of the
+/// tables.
 pub fn report_content(console: &Console<'_>, path: &str, content: Result<Content, Error>) {
     match content {
         Ok(content) => console.say_of(path, &content),

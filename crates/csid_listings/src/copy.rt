@@ -140,8 +140,9 @@ fn has_header(wal: &[u8], header: &[u8]) -> bool
 }
 
 // Reads the database file, its WAL, the database file again, and last the header of the WAL. Returns `None`
-// if a process wrote to them meanwhile: the database file or the header of the WAL has changed. A process
-// that starts a WAL again writes a new header before it overwrites or cuts off any frame.
+// if the database file or the header of the WAL has changed meanwhile, since the bytes may then be of
+// different moments. A process that starts a WAL again writes a new header before it overwrites or cuts off
+// any frame.
 fn copied_once<F: DatabaseReads>(
     alloc: Global,
     files: &mut F,
@@ -166,8 +167,8 @@ fn copied_once<F: DatabaseReads>(
     Ok(Some(files_of(alloc, wal.as_slice(), database.as_slice())?))
 }
 
-// Returns a copy of a database file and its WAL as they were at one moment. Fails if a process wrote to them
-// during each of ten tries.
+// Returns a copy of a database file and its WAL as they were at one moment. Fails if the database file or the
+// header of the WAL changed during each of ten tries.
 fn copied<F: DatabaseReads>(
     alloc: Global,
     path: &str,

@@ -1,5 +1,6 @@
-//! Reports more about the row for which `csid` refused tables. If the row is a volume, reports the volume. If
-//! a pool or a node is too full, reports by how much.
+//! Reports more about the row for which `csid` refused tables. For the row of a volume or of an attachment,
+//! reports the volume. For a pool or a node that is too full, reports what its volumes use and what it can
+//! have.
 
 use command_line::size_text;
 use csi_adoption::AdoptFault;
@@ -125,7 +126,7 @@ fn line<S: Alter>(
 }
 
 /// Reports details of the volume, the pool or the node for which tables are refused. Reports nothing if the
-/// fault is of another kind.
+/// fault is of another kind, or if the details cannot be read from the tables.
 pub(crate) fn explain<S: Alter>(
     console: &Console<'_>,
     path: &str,

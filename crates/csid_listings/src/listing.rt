@@ -130,9 +130,10 @@ impl<S: Alter + Drop> TablesCopy<'_, S> {
     }
 }
 
-/// Lists the volumes of the tables in the file at `path`, as they were committed at one moment. After the
-/// volumes come the sums of their sizes for each pool and each node. Writes the list on standard output in
-/// columns, or in JSON with a line for each volume. The file is only read.
+/// Lists the volumes of the tables in the file at `path` that pass the filter `chosen`, as they were
+/// committed at one moment. After the volumes come the sums of their sizes for each pool and each node.
+/// Writes the list on standard output in columns, or in JSON with a line for each volume. The file is only
+/// read.
 ///
 /// # Errors
 ///
@@ -146,7 +147,8 @@ pub fn list_tables(
     over_tables_copy(console, path, CopyTask::List(chosen, is_json))?
 }
 
-// Lists the volumes of the tables on a connection, in JSON if `is_json` is true, otherwise in columns.
+// Lists the volumes of the tables on a connection that pass the filter, in JSON if `is_json` is true,
+// otherwise in columns.
 pub(crate) fn list_over<S: Alter + Drop>(
     console: &Console<'_>,
     path: &str,

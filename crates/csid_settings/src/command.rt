@@ -71,7 +71,8 @@ pub struct TablesFile<'a> {
     /// True if the file must exist and have tables. If false, a missing file is made, and tables are made in
     /// a file without tables.
     pub is_existing: bool,
-    /// True if reads are answered from the file. If false, they are answered from a copy in memory.
+    /// True if reads are answered from the file. If false, they are answered from a copy in memory, or from
+    /// the file if memory for the copy is refused.
     pub is_low_memory: bool,
 }
 
@@ -95,9 +96,10 @@ pub struct Serving<'a> {
     pub config: Option<&'a str>,
     /// The name or number of the group that may connect, or `None` if only the owner may connect.
     pub group: Option<&'a str>,
-    /// The number of seconds for which a connection may send nothing, or `None` for no limit.
+    /// The number of seconds for which the peer of a connection may send or take nothing, or `None` for no
+    /// limit.
     pub idle: Option<u32>,
-    /// The number of connections that are served before the program ends.
+    /// The number of connections that are accepted before the program ends.
     pub connections: u32,
 }
 
@@ -342,7 +344,7 @@ pub fn odd_store<'a>(matches: &ArgMatches<'a>) -> Option<&'static str> {
     }
 }
 
-// Returns the file of tables at a path, with the options of a command.
+// Returns the file of tables at `path`, with the values of `--existing` and `--low-memory`.
 fn tables_file<'a>(arguments: &ArgMatches<'a>, path: &'a str) -> TablesFile<'a> {
     TablesFile {
         path,

@@ -46,7 +46,7 @@ fn report_unknown(console: &Console<'_>, path: &str, bytes: &[u8]) {
 }
 
 // Reports the unknown keys of a refused configuration, and all of its faults except the last. Returns the
-// last fault, which the caller reports.
+// last fault, which the caller reports. If no fault is found, reports nothing and returns `refused`.
 fn report_faults(console: &Console<'_>, path: &str, bytes: &[u8], refused: Failure) -> Failure
     requires { IsOrNoMemory 3 refused }
     ensures { IsOrNoMemory 3 result }

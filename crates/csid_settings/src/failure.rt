@@ -36,13 +36,15 @@ impl Resource {
     }
 }
 
-/// The reason why the program ends with a status other than 0. Its `Display` is the line on standard error.
+/// A failure, which ends the program or, if it is a failure of one connection, is only reported. Its
+/// `Display` is the line on standard error.
 #[derive(Debug, Error)]
 pub enum Failure {
     /// A frame of a call is malformed.
     #[error("{0}")]
     Malformed(FrameFault),
-    /// The command line is not valid, or its help could not be written.
+    /// The command line is not valid, help or the version could not be written, or memory for the arguments
+    /// was refused.
     #[error("{0}")]
     Arguments(#[from] ArgumentsFault),
     /// A resource cannot be used. The value has the name of the resource and the reason.
@@ -135,8 +137,8 @@ impl Failure {
         Failure::of(Resource::Socket, cause(alloc, name, why))
     }
 
-    /// Returns the exit status of the program, 1 to 7 (docs/OPERATING.md, "Arguments and exit statuses of
-    /// `csid`").
+    /// Returns the exit status of the program if this failure ends it, 1 to 7 (docs/OPERATING.md, "Arguments
+    /// and exit statuses of `csid`").
     pub fn status(&self) -> u8
         ensures { result ≡ failure_status self.now }
     {
@@ -179,7 +181,7 @@ impl Endpoint {
     }
 }
 
-/// Returns the outcome of the program after a run of calls that ended with `end`.
+/// Returns the outcome of a run of calls that ended with `end`. `peer` names the input and the output.
 ///
 /// # Errors
 ///

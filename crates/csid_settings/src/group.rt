@@ -46,8 +46,8 @@ fn number_of(text: &str) -> Option<u32> {
     }
 }
 
-/// Returns the number of the group with this name. If no group has the name, parses the name as a decimal
-/// number.
+/// Returns the number of the group with this name. If no group has the name, or `/etc/group` cannot be read,
+/// parses the name as a decimal number.
 ///
 /// # Errors
 ///

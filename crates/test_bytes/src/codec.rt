@@ -106,7 +106,7 @@ fn checked(request: &Request) -> &'static str {
     }
 }
 
-// Returns the canonical bytes in hexadecimal, or `same` if they are the bytes of the row.
+// Returns the canonical bytes as [`bytes_text`] writes them, or `same` if they are the bytes of the row.
 fn compared(alloc: Global, bytes: &[u8], canonical: &[u8]) -> Result<String, RowFault> {
     if canonical == bytes {
         return displayed(alloc, &"same");

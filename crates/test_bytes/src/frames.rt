@@ -39,7 +39,8 @@ pub(crate) fn answer(alloc: Global, row: &str) -> Result<String, RowFault> {
     }
 }
 
-// Returns the frame of a call, and `read back` if reading the frame gives the same call.
+// Returns the frame of a call, and `read back` if reading the frame gives the same call, otherwise `not read
+// back`.
 fn request_answer(alloc: Global, rest: &str) -> Result<String, RowFault> {
     let (path, notation) = first_word(rest)?;
     let message = bytes_of(alloc, notation)?;

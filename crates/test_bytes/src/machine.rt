@@ -1,4 +1,5 @@
-//! Answers rows that are requests to the volume machine. They are made in order over one keeper in memory.
+//! Answers rows that are requests to the volume machine. They are made one after the other over one keeper in
+//! memory, until a row `begin` makes a new keeper.
 
 use crate::words::{first_word, named};
 use csi_config::Config;
@@ -73,7 +74,7 @@ impl Bench {
     }
 
     // Makes a request many times. The answer has the number of requests that succeeded, and the last reply
-    // that was a refusal.
+    // that was a refusal, or `no other` if no request was refused.
     fn answer_many(&mut self, alloc: Global, words: &str) -> Result<String, RowFault> {
         let (times, rest) = first_word(words)?;
         let (name, notation) = first_word(rest)?;
@@ -97,7 +98,8 @@ impl AnswerRow for Bench {
     }
 }
 
-// Makes a bench of the configuration with this name, and a keeper whose first volume gets this number.
+// Makes a bench of the configuration that the first word names. The first volume of its keeper gets the
+// number in the second word, or 1 without a second word.
 fn begun(alloc: Global, words: &str) -> Result<Bench, RowFault> {
     let (name, first) = words.split_once(' ').unwrap_or((words, "1"));
     let first: u64 = number_of(first)?;

@@ -55,8 +55,8 @@ impl AnswerRow for Calls<'_> {
     }
 }
 
-// Sends bytes over a new connection, ends the sending side, and serves the connection. The received bytes
-// show how the run ended.
+// Sends bytes over a new connection, ends the sending side, and serves the connection. Returns the end of the
+// client, whose received bytes show how the run ended.
 fn served(
     rt: &HostRuntime,
     listener: &UnixListener,

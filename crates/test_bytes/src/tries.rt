@@ -132,14 +132,14 @@ fn word_of(received: &Received) -> &'static str {
     }
 }
 
-// A scripted line. The words name the outcomes of its exchanges in order, and the last word counts for all
-// later exchanges.
+// A scripted line. The words name the outcomes of its first exchanges, one word for each. Each later exchange
+// has the outcome of the last word.
 #[derive(Drop)]
 struct Script<'w> {
     alloc: Global,
     words: &'w [&'w str],
     exchanges: Exchanges,
-    // True if each exchange was given the same frame.
+    // True if each exchange was given the bytes of `FRAME`.
     is_same: bool,
 }
 
@@ -189,7 +189,7 @@ fn call_answer(alloc: Global, words: &[&str]) -> Result<String, RowFault> {
     reported(alloc, &line, word)
 }
 
-// Writes the word for the last outcome, and the counts of the line.
+// Returns the word for the last outcome, and the counts of the line.
 fn reported(alloc: Global, line: &Script<'_>, word: &str) -> Result<String, RowFault> {
     let Exchanges {
         made,

@@ -1,4 +1,4 @@
-//! Reads the first words of a row.
+//! Splits rows at their first word, and finds methods by their names.
 
 use csi_types::{Method, method_named};
 use std::alloc::Global;

@@ -12,13 +12,14 @@ pub enum RowFault {
     /// The row does not have a form that its section knows.
     #[error("not a row")]
     NotRow,
-    /// A word cannot be parsed as bytes by [`bytes_of`](crate::bytes_of).
+    /// A word cannot be parsed as bytes by [`bytes_of`](crate::bytes_of), or bytes that must be a text are
+    /// not UTF-8.
     #[error("not bytes")]
     NotBytes,
     /// Memory was refused while the row was answered.
     #[error("no memory for the row")]
     NoMemory,
-    /// The call that the row tests failed. The value is the fixed text of its cause.
+    /// The call or another step of the test failed. The value is the fixed text of its cause.
     #[error("{0}")]
     Refused(&'static str),
     /// The result differs from the expected result. The value describes the difference.

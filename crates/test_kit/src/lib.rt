@@ -1,4 +1,4 @@
-//! The parts that test programs of rows share. Such a program answers each line of its input, and its output
+//! The parts that test programs of rows share. Such a program answers the rows of its input, and its output
 //! is compared with a stored output.
 //!
 //! The input has sections. A line `@ NAME` begins a section. A line that is empty or begins with `#` is

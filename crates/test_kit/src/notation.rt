@@ -4,12 +4,12 @@
 //! - Parentheses are the length of their contents, as a varint, followed by the contents: `0a(61)` is
 //!   `0a0161`.
 //! - Square brackets are a group.
-//! - `*N` after a byte, a text or a group repeats it N times: `61*3` is `616161`.
+//! - `*N` after a byte, a text, parentheses, a group or a `#N` repeats it N times: `61*3` is `616161`.
 //! - In a group, `#N` is the number of earlier repetitions of the group, as N digits to the base 64 (N is 1
 //!   to 3). Each digit is a byte with the value of the digit. `#0` is the same number as a decimal text.
 //! - Spaces are skipped, and `-` alone is no bytes.
 //!
-//! Digits are in lower case, and parentheses and brackets nest up to 11 deep.
+//! Hexadecimal digits are in lower case, and parentheses and brackets nest up to 11 deep.
 ghost use Rattle.std.specs.Prelude.{◌≡◌, ◌<◌, ◌++◌, [], IfOk, IfSome, codes, length};
 
 use std::alloc::{AllocError, AllocFailed, Global};
@@ -184,7 +184,8 @@ fn put_decimal(out: &mut Vec<u8>, alloc: Global, count: u32) -> Result<(), Notat
     }
 }
 
-// Returns the first part of the text, and the text after it.
+// Returns the first part of the text, and the text after it, or `None` if the text does not begin with a
+// part.
 fn first_part(text: &[u8]) -> Option<(Part<'_>, &[u8])> {
     let (first, rest) = text.split_first()?;
     match *first {
@@ -202,6 +203,7 @@ fn first_part(text: &[u8]) -> Option<(Part<'_>, &[u8])> {
 }
 
 // Returns the part between an opening quotation mark or bracket and its closing one, and the text after it.
+// Returns `None` if the closing one is missing.
 fn enclosed(opening: u8, text: &[u8]) -> Option<(Part<'_>, &[u8])> {
     let end = match opening {
         b'"' => text.iter().position(|byte| *byte == b'"'),
@@ -228,7 +230,8 @@ fn digit(character: u8) -> Option<u8>
     }
 }
 
-// Returns the index of the bracket that closes the bracket before the text.
+// Returns the index of the bracket that closes the bracket before the text, or `None` if there is none.
+// Brackets inside quotation marks do not count.
 fn closing(text: &[u8]) -> Option<usize>
     ensures { IfSome result (λ place. place < length text.now) }
 {
@@ -247,7 +250,8 @@ fn closing(text: &[u8]) -> Option<usize>
     None
 }
 
-// Returns the number N of a `*N` at the start of the text, or 1 without it, and the rest of the text.
+// Returns the number N of a `*N` at the start of the text, or 1 without it, and the rest of the text. Returns
+// `None` if the `*` has no number below 2^32 after it.
 fn times_of(text: &[u8]) -> Option<(u32, &[u8])> {
     let Some((b'*', rest)) = text.split_first() else {
         return Some((1, text));

@@ -7,7 +7,7 @@ use std::str::FromStr;
 // The greatest number of bytes that an answer shows. Of more bytes, it shows only the number.
 const SHOWN_BYTES: usize = 64;
 
-/// Splits a row into words at each space. Two spaces in a row have an empty word between them.
+/// Splits a row into words at each space. Between two spaces side by side there is an empty word.
 ///
 /// # Errors
 ///
@@ -69,8 +69,8 @@ pub fn put_part(out: &mut String, part: &str) -> Result<(), RowFault> {
     Ok(())
 }
 
-/// Writes bytes in hexadecimal digits. Writes `-` for no bytes, and only the number, as `N bytes`, for more
-/// than 64 bytes.
+/// Returns bytes in hexadecimal digits. The text is `-` for no bytes. For more than 64 bytes it is only their
+/// number, as `N bytes`.
 ///
 /// # Errors
 ///

@@ -48,8 +48,9 @@ impl Reply {
         )
     }
 
-    /// Writes the status number, and after it the body in hexadecimal digits if the call succeeded. If the
-    /// call was refused, writes the text of the refusal instead of the body.
+    /// Returns the status number, and after it the body as [`bytes_text`] writes it if the call succeeded. If
+    /// the message was malformed or the request was refused, the text of the fault or of the refusal replaces
+    /// the body.
     ///
     /// # Errors
     ///
@@ -63,8 +64,8 @@ impl Reply {
         })
     }
 
-    /// Writes the reply to ListVolumes. If the call succeeded, writes the number of entries, the token, and
-    /// for each entry the id and the nodes. Otherwise writes the status number and the text of the refusal.
+    /// Returns the reply to ListVolumes as a text. If the call succeeded, the text has the number of entries,
+    /// the token, and for each entry the id and the nodes. Otherwise returns the text of [`Reply::text`].
     ///
     /// # Errors
     ///
@@ -132,7 +133,8 @@ fn page_text(alloc: Global, body: &[u8]) -> Result<String, RowFault> {
     }
 }
 
-// Writes the entries of a listing. The response is borrowed, since moving a value of this size is expensive.
+// Returns the entries of a listing as a text. The response is borrowed, since moving a value of this size is
+// expensive.
 fn entries_text(alloc: Global, response: &Response) -> Result<String, RowFault> {
     let Response::List { entries, token } = response else {
         return Err(RowFault::Refused(NO_PAGE));

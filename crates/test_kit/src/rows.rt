@@ -1,4 +1,4 @@
-//! Writes each line of the input, with its answer.
+//! Writes the lines of the input, and the answer to each row.
 
 use crate::fault::RowFault;
 use std::io::{self, Read, Write};
@@ -21,7 +21,7 @@ pub enum RowAnswer {
     Lines(Vec<u8>),
 }
 
-/// A section, which answers its rows in order.
+/// A section, which answers its rows in the order of the input.
 pub trait AnswerRow {
     /// Returns the answer to a row of the input.
     ///
@@ -31,7 +31,7 @@ pub trait AnswerRow {
     fn answer_row(&mut self, rt: &HostRuntime, row: &str) -> Result<RowAnswer, RowFault>;
 }
 
-/// A test program, which answers its sections in order.
+/// A test program, which answers its sections in the order of the input.
 pub trait AnswerSection {
     /// Answers the rows of the section with this name, by calling [`Rows::answer`].
     ///
@@ -58,8 +58,8 @@ pub struct Rows<'a, W> {
 }
 
 impl<W: Write> Rows<'_, W> {
-    /// Answers the rows of the section, and writes each row with its answer. Nothing is written after a
-    /// failed write.
+    /// Answers the rows of the section, and writes each row with its answer. A row with the answer
+    /// [`RowAnswer::Nothing`] is not written. After a failed write, no more rows are answered.
     pub fn answer<R: AnswerRow>(&mut self, rt: &HostRuntime, section: &mut R) {
         self.end = writeln!(self.out, "{HEAD}{}", self.name);
         for line in self.lines.split('\n') {
@@ -98,7 +98,8 @@ fn answer_line<W: Write, R: AnswerRow>(
     write_answer(out, line, section.answer_row(rt, line))
 }
 
-// Answers one section. The first line of the text has the name of the section.
+// Answers one section. The first line of `section` is the name of the section, and its other lines are the
+// lines of the section.
 fn answer_lines<W: Write, S: AnswerSection>(
     rt: &HostRuntime,
     sections: &S,

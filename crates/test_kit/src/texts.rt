@@ -17,7 +17,7 @@ pub fn text_at(alloc: Global, words: &[&str], place: usize) -> Result<Text, RowF
     text_of(alloc, word_at(words, place)?)
 }
 
-/// Parses each word as a text, and returns the texts in order.
+/// Parses each word as a text, and returns the texts in the order of the words.
 ///
 /// # Errors
 ///
@@ -60,7 +60,8 @@ fn text_of(alloc: Global, word: &str) -> Result<Text, RowFault> {
     Ok(Text::from_string(text))
 }
 
-// Returns the character whose number follows `U+`, or `None` if the part does not begin with `U+`.
+// Returns the character whose hexadecimal number follows `U+`, or `None` if the part does not begin with
+// `U+`. Fails with `NotRow` if no character has the number.
 fn character_of(part: &str) -> Result<Option<char>, RowFault> {
     match part.strip_prefix("U+") {
         Some(digits) => {

@@ -1,4 +1,5 @@
-//! Answers rows that adopt tables in memory, read them, give the connection back and adopt them again.
+//! Answers test rows. For each, adopts tables in memory, reads them, gives the connection back and adopts
+//! them again.
 
 ghost use Rattle.std.specs.Prelude.{◌≡◌, false};
 
@@ -13,8 +14,8 @@ use sqlite::{Alter, Connection};
 use std::alloc::Global;
 use test_kit::RowFault;
 
-/// Answers a row: begins the database that the row names, runs the statements of the row, and adopts the
-/// tables twice under the configuration of the row.
+/// Answers a test row: begins the database that the test row names, runs its statements, and adopts the
+/// tables twice under its configuration.
 pub(crate) fn answer(alloc: Global, row: &str) -> Result<String, RowFault> {
     let (how, statements) = row.split_once(" |").ok_or(RowFault::NotRow)?;
     let (start, config) = how.split_once(' ').ok_or(RowFault::NotRow)?;
@@ -41,8 +42,8 @@ fn begin<S: Alter>(conn: &mut Connection<S>, start: &str, statements: &str) -> R
     Ok(())
 }
 
-// Adopts the tables, gives the connection back and adopts the tables again. Returns the answers of both
-// adoptions.
+// Adopts the tables, gives the connection back and adopts the tables again. Returns the answer of the first
+// adoption, and also the answer of the second if it differs.
 fn adopt_twice<S: Alter + Drop>(
     alloc: Global,
     mut conn: Connection<S>,
@@ -82,7 +83,8 @@ fn format_of<S: Alter>(
     Ok(format!(in alloc; ", in format {format}")?)
 }
 
-// Adopts the tables. Returns their State or the fault as a text, and the connection.
+// Adopts the tables. Returns their State or the fault as a text, and the connection. If a transaction is open
+// on the connection, the result is the fault `refused`.
 fn reported<S: Alter>(
     alloc: Global,
     conn: Connection<S>,

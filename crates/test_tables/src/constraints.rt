@@ -1,4 +1,5 @@
-//! Answers rows that test constraints over the rows of tables in memory.
+//! Answers test rows, each of which tests one constraint on the volumes or the attachments of tables in
+//! memory.
 
 use crate::database::{idle, make, run, without_tables};
 use crate::scans::Scan;
@@ -15,7 +16,7 @@ use std::alloc::Global;
 use std::fmt::{Display, Write};
 use test_kit::{RowFault, number_at, word_at, words_of};
 
-/// Answers a row: makes the tables, runs the statements of the row, and tests its constraint.
+/// Answers a test row: makes the tables, runs the statements of the row, and tests its constraint.
 pub(crate) fn answer(alloc: Global, row: &str) -> Result<String, RowFault> {
     let (constraint, statements) = row.split_once(" | ").ok_or(RowFault::NotRow)?;
     let config = Config::sample(alloc)?;
@@ -195,7 +196,8 @@ enum Words {
     Attachment(AttachmentConstraint),
 }
 
-// Returns `holds` if the rows meet a constraint. Otherwise describes the first row that breaks it.
+// Returns `holds` if no row was found that breaks a constraint. Otherwise describes the row, which is the
+// first such row of the scan.
 fn reported(alloc: Global, found: &Option<RowName>, words: Words) -> Result<String, RowFault> {
     match found {
         Some(row) => broken_text(alloc, row, words),

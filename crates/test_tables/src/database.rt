@@ -1,4 +1,4 @@
-//! Makes databases in memory for rows, and runs SQL statements over them.
+//! Makes databases in memory for test rows, and runs SQL statements over them.
 
 ghost use Rattle.std.specs.Prelude.{◌≡◌, false, IfOk};
 
@@ -7,8 +7,8 @@ use sqlite::{Alter, Connection, Error as SqlError, ErrorCode, MemStore};
 use std::alloc::Global;
 use test_kit::RowFault;
 
-/// Converts an error of the database to the fault of a row: [`RowFault::NoMemory`] if memory was refused,
-/// otherwise [`RowFault::Refused`].
+/// Converts an error of the database to the fault of a test row: [`RowFault::NoMemory`] if memory was
+/// refused, otherwise [`RowFault::Refused`].
 pub(crate) fn refused(error: SqlError) -> RowFault {
     match error {
         SqlError::SqliteFailure(ErrorCode::OutOfMemory) => RowFault::NoMemory,
@@ -39,7 +39,8 @@ pub(crate) fn idle<S: Alter + Drop>(conn: Connection<S>) -> Result<IdleConnectio
     Ok(IdleConnection::new(conn))
 }
 
-/// Runs SQL statements in order.
+/// Runs SQL statements one after the other. A failed statement ends the run with [`RowFault::Refused`], or
+/// with [`RowFault::NoMemory`] if memory was refused.
 pub(crate) fn run<S: Alter>(conn: &mut Connection<S>, statements: &str) -> Result<(), RowFault> {
     conn.execute_batch(statements).map_err(refused)
 }

@@ -13,8 +13,8 @@ use test_kit::{
     AnswerRow, RowAnswer, RowFault, bytes_of, bytes_text, number_at, word_at, words_of,
 };
 
-/// The state that is kept between rows: the files that earlier rows left, and the bytes of a new database
-/// file.
+/// The state that is kept between test rows: the files that earlier test rows left, and the bytes of a new
+/// database file.
 #[derive(Drop)]
 pub(crate) struct Bench<D> {
     stops: stops::Bench<D>,
@@ -63,7 +63,7 @@ impl<D: TestDisk> Bench<D> {
     }
 
     // Serves calls like `serve`, but each read of one byte of the database file flips some of its bits. The
-    // row gives a text, a distance and the bits. The byte is at this distance after the beginning of the
+    // test row gives a text, a distance and the bits. The byte is at this distance after the beginning of the
     // first such text in the file. The files stay unchanged.
     fn lie(&mut self, alloc: Global, row: &str) -> Result<String, RowFault> {
         let (lie, calls) = row.split_once(" / ").ok_or(RowFault::NotRow)?;

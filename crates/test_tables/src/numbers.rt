@@ -1,4 +1,4 @@
-//! Parses numbers of a row that have an upper limit.
+//! Parses numbers in test rows that have an upper limit.
 
 ghost use Rattle.std.specs.Prelude.{◌<◌, ◌^◌, IfOk};
 

@@ -1,4 +1,4 @@
-//! Answers rows that make scans of tables in memory.
+//! Answers test rows that make scans of tables in memory. A scan reads rows of the tables.
 
 ghost use Rattle.std.specs.Prelude.{◌≡◌, false};
 
@@ -16,8 +16,7 @@ use std::alloc::Global;
 use std::fmt::Write;
 use test_kit::{RowFault, number_at, word_at, words_of};
 
-/// Answers a row: begins the database that the row names, runs the statements of the row, and makes the scan
-/// of the row.
+/// Answers a test row: begins the database that the test row names, runs its statements, and makes its scan.
 pub(crate) fn answer(alloc: Global, row: &str) -> Result<String, RowFault> {
     let (start, rest) = row.split_once(" | ").ok_or(RowFault::NotRow)?;
     let (question, statements) = rest.split_once(" | ").ok_or(RowFault::NotRow)?;

@@ -7,7 +7,7 @@ use std::alloc::Global;
 use std::fmt::Write;
 use test_kit::RowFault;
 
-// The greatest number of volumes that the text shows. No row has more.
+// The greatest number of volumes that the text shows. No test row makes more volumes.
 const MOST_VOLUMES: u32 = 100;
 
 /// Returns the State of a keeper as a text: the next number, each volume with its mutable parameters and its

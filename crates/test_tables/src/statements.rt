@@ -1,4 +1,4 @@
-//! Answers rows that are statements over tables in memory.
+//! Answers test rows that are statements over tables in memory.
 
 ghost use Rattle.std.specs.Prelude.{◌≡◌, false};
 
@@ -11,11 +11,11 @@ use sqlite::{Alter, Connection, Error as SqlError, MemStore, Row};
 use std::alloc::Global;
 use test_kit::{AnswerRow, RowAnswer, RowFault, bytes_of, number_at, put_part, word_at, words_of};
 
-/// The state that is kept between rows: a database in any store. The proofs about its rows do not look into
-/// the type of the store.
+/// The state that is kept between test rows: a database in any store. The proofs about the rows of its tables
+/// do not look into the type of the store.
 #[derive(Drop)]
 pub(crate) struct Bench<S: Alter + Drop> {
-    // The connection. It is `None` only while a row is answered.
+    // The connection. It is `None` only while a test row is answered.
     conn: Option<IdleConnection<S>>,
 }
 
@@ -36,7 +36,7 @@ impl<S: Alter + Drop> AnswerRow for Bench<S> {
     }
 }
 
-// Answers a row, and returns the answer and the connection.
+// Answers a test row, and returns the answer and the connection.
 fn answer<S: Alter + Drop>(
     alloc: Global,
     mut conn: IdleConnection<S>,
@@ -55,7 +55,7 @@ fn answer<S: Alter + Drop>(
     }
 }
 
-// Answers the rows `make`, `first` and `meta`, which are not changes or reads of `csi_sql`.
+// Answers the test rows `make`, `first` and `meta`, which are not changes or reads of `csi_sql`.
 fn on_connection<S: Alter>(
     alloc: Global,
     conn: &mut Connection<S>,
@@ -144,7 +144,7 @@ fn detach<S: Alter>(
     }
 }
 
-// Reads at most one row: a volume, or the next number.
+// Reads at most one row of the tables: a volume, or the next number.
 fn find<S: Alter>(
     alloc: Global,
     conn: &mut IdleConnection<S>,
@@ -229,7 +229,7 @@ fn rows_text(alloc: Global, rows: &[Row]) -> Result<String, RowFault> {
     Ok(or_none(text)?)
 }
 
-// Writes the numbers of the volumes as a text.
+// Returns the numbers of the volumes as a text.
 fn numbers_text(alloc: Global, volumes: &[Row]) -> Result<String, RowFault> {
     let mut text = String::new(alloc);
     for row in volumes {
@@ -244,7 +244,8 @@ fn both(alloc: Global, volumes: &[Row], places: &[Row]) -> Result<String, RowFau
     Ok(format!(in alloc; "{numbers}; {places}")?)
 }
 
-// Writes the attachments as a text: node, capability, and whether the attachment is read-only.
+// Returns the attachments as a text: the node, the capability, and `true` if the attachment is read-only,
+// otherwise `false`.
 fn attachments(alloc: Global, rows: Result<Vec<Row>, SqlError>) -> Result<String, RowFault> {
     let mut text = String::new(alloc);
     for row in &rows.map_err(refused)? {

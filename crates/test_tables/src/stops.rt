@@ -32,7 +32,7 @@ pub(crate) enum Ending {
     Older,
 }
 
-/// The state that is kept between rows: the sample configuration, and the two files of a database.
+/// The state that is kept between test rows: the sample configuration, and the two files of a database.
 #[derive(Drop)]
 pub(crate) struct Bench<D> {
     config: Config,
@@ -92,7 +92,7 @@ impl<D: TestDisk> Bench<D> {
         Err(RowFault::NotRow)
     }
 
-    /// Answers a row. Its first word names what is done with the files.
+    /// Answers a test row. Its first word names what is done with the files.
     pub(crate) fn answer(&mut self, alloc: Global, row: &str) -> Result<String, RowFault> {
         let (word, rest) = row.split_once(' ').ok_or(RowFault::NotRow)?;
         match word {

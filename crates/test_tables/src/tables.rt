@@ -1,4 +1,4 @@
-//! Answers rows that are requests to the volume machine over tables in memory.
+//! Answers test rows that are requests to the volume machine over tables in memory.
 
 mod calls;
 mod words;
@@ -16,8 +16,8 @@ use std::mem;
 use test_kit::{AnswerRow, RowAnswer, RowFault, bytes_of, reply_to};
 use words::numbers_in_words;
 
-/// The state that is kept between rows: the sample configuration, and the tables with the volumes of earlier
-/// requests.
+/// The state that is kept between test rows: the sample configuration, and the tables with the volumes of
+/// earlier requests.
 #[derive(Drop)]
 pub(crate) struct Bench {
     config: Config,
@@ -85,7 +85,7 @@ fn next_in<S: Alter>(alloc: Global, conn: &mut IdleConnection<S>) -> Result<Stri
     numbers_in_words(alloc, &[next.get(0).map_err(refused)?])
 }
 
-// Answers a row: a request, a page of a listing in words, or a direct call of the keeper.
+// Answers a test row: a request, a page of a listing in words, or a direct call of the keeper.
 fn reported<K: Keeper>(
     alloc: Global,
     config: &Config,

@@ -15,7 +15,8 @@ pub(crate) fn mode_name(mode: u8) -> &'static str {
     }
 }
 
-// Returns a capability as one word: `block:MODE`, `mount:MODE` or `FILESYSTEM:MODE`.
+// Returns a capability as one word: `block:MODE` for a block device, and `FILESYSTEM:MODE` for a mount, or
+// `mount:MODE` if the mount names no file system.
 fn capability(alloc: Global, key: &CapKey) -> Result<String, AllocError> {
     let mode = mode_name(key.mode);
     match &key.kind {

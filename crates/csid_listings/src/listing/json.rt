@@ -100,8 +100,8 @@ impl Visit for Lines<'_> {
     }
 }
 
-/// Writes a JSON object of three lists: `volumes`, and the sums of the `pools` and the `nodes` that have
-/// volumes.
+/// Writes a JSON object of three lists on standard output: the `volumes` that pass the filter, and their sums
+/// for each of the `pools` and the `nodes` that have such volumes.
 pub(crate) fn write<S: Alter + Drop>(
     rt: &HostRuntime,
     tables: &mut TablesCopy<'_, S>,

@@ -24,7 +24,8 @@ impl<'a> Output<'a> {
         }
     }
 
-    /// Writes the bytes that were collected.
+    /// Writes the bytes that were collected. If the reader of standard output has gone, drops them without a
+    /// failure.
     pub(crate) fn flush(&mut self) -> Result<(), Failure> {
         let mut out = self.rt.stdout();
         let written = out

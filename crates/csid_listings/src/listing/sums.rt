@@ -5,7 +5,7 @@ use csi_types::{Items, Text};
 use std::alloc::{AllocError, Global};
 use std::collections::BTreeMap;
 
-/// A number of volumes, and the sum of their bytes. Both are at most 2^64 - 1.
+/// A number of volumes, and the sum of their bytes. A sum above 2^64 - 1 is kept as 2^64 - 1.
 #[derive(Clone, Copy)]
 pub(crate) struct Sum {
     pub(crate) volumes: u64,

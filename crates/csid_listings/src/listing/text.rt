@@ -41,7 +41,8 @@ fn sums_text(alloc: Global, heading: &'static str, sums: &Sums) -> Result<String
     format!(in alloc; "\n{text}")
 }
 
-/// Writes a row for each volume, then a row for each pool and each node that has volumes.
+/// Writes a row for each volume that passes the filter, then a row for each pool and each node that has such
+/// volumes.
 pub(crate) fn write<S: Alter + Drop>(
     rt: &HostRuntime,
     tables: &mut TablesCopy<'_, S>,

@@ -14,8 +14,8 @@ use test_kit::{RowFault, bytes_of, bytes_text, number_of, put_part};
 // Field numbers are below this number.
 const NUMBERS: u32 = 1 << 29;
 
-/// Returns the fields of a message in order, the fault after them if there is one, and the offset at which
-/// the reader stops.
+/// Returns the fields of a message in the order of its bytes, the fault after them if there is one, and the
+/// offset at which the reader stops.
 pub(crate) fn fields_answer(alloc: Global, notation: &str) -> Result<String, RowFault> {
     let bytes = bytes_of(alloc, notation)?;
     let mut fields = Fields::new(&bytes);
@@ -87,7 +87,8 @@ fn is_cut_short(prefix: &[u8]) -> bool {
     )
 }
 
-/// Returns the bytes of the row's fields in the wire format, in order and in hexadecimal.
+/// Returns the bytes of the row's fields in the wire format, one field after the other, in hexadecimal
+/// digits.
 pub(crate) fn write_answer(alloc: Global, fields: &str) -> Result<String, RowFault> {
     let mut out = Vec::new(alloc);
     for field in fields.split(", ") {

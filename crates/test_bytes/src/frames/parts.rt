@@ -21,8 +21,8 @@ enum Part {
     Frame(String, usize),
 }
 
-/// Returns the frames in the row's bytes, in order. After them comes the fault, or `nothing` if all bytes are
-/// frames.
+/// Returns the frames in the row's bytes, one after the other. After them comes the fault, or `nothing` if
+/// all bytes are frames.
 pub(crate) fn parts_answer(
     alloc: Global,
     kind: FrameKind,

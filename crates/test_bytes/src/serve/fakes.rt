@@ -95,7 +95,8 @@ impl<'a> Pieces<'a> {
 }
 
 /// A reader that returns pieces to a server. A read fails if its buffer does not have [`GREATEST_PIECE`]
-/// bytes, or if the server has written bytes and not flushed them.
+/// bytes, if the server has written bytes and not flushed them, or if the pieces have a failing read at this
+/// place.
 #[derive(Drop)]
 pub(crate) struct Reader<'a> {
     pieces: Pieces<'a>,
@@ -103,8 +104,8 @@ pub(crate) struct Reader<'a> {
 }
 
 impl<'a> Reader<'a> {
-    /// Makes a reader that returns these pieces. If the server reads after the end of a run, the reader notes
-    /// this in `watch`.
+    /// Makes a reader that returns these pieces. If the server reads after a fault is known or a write has
+    /// failed, the reader notes this in `watch`.
     pub(crate) fn new(pieces: Pieces<'a>, watch: &'a Watch) -> Reader<'a> {
         Reader { pieces, watch }
     }
@@ -219,12 +220,13 @@ impl<'a> Writer<'a> {
         }
     }
 
-    /// Returns all bytes that the writer took, in order.
+    /// Returns all bytes that the writer took, in the order in which it took them.
     pub(crate) fn into_bytes(self) -> Vec<u8> {
         self.bytes
     }
 
-    // Returns true if the trouble comes at this call. If not, counts down the calls before the trouble.
+    // Returns true if the writer has this trouble at this call. If this trouble comes later, counts down the
+    // calls before it.
     fn is_due(&mut self, trouble: Trouble) -> bool {
         if self.takes.trouble != trouble {
             return false;

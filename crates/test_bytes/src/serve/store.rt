@@ -27,8 +27,8 @@ pub(super) struct Run {
     refusals: u64,
 }
 
-/// A run over a store that refuses a call: its outcome, the number of refusals that the keeper counted, and
-/// whether the store is down at the end.
+/// A run over a store that refuses a call: its outcome, the number of refusals that the keeper counted, and a
+/// flag that is true if the store is down at the end.
 #[derive(Drop)]
 pub(super) struct Refused {
     pub(super) served: Served,
@@ -145,7 +145,8 @@ impl Trials<'_> {
         })
     }
 
-    /// Returns the outcome of a run, with the State of `keeper` after the run and whether the store is down.
+    /// Returns the outcome of a run, with the State of `keeper` after the run. `is_down` is true if the store
+    /// is down.
     ///
     /// # Errors
     ///

@@ -22,7 +22,7 @@ pub(crate) struct Trials<'a> {
     pub(crate) kept: &'a [String],
 }
 
-/// Returns the State before the first call of a stream, and the State after each call, in order.
+/// Returns the State before the first call of a stream, and then the State after each call.
 pub(crate) fn kept_after_each(
     alloc: Global,
     server: Server<'_>,
@@ -182,7 +182,8 @@ impl Trials<'_> {
         }
     }
 
-    // Tries runs in which each read of a byte fails in turn, and the read of the end.
+    // Tries one run for each read of a byte, and one for the read of the end of the stream. This read fails
+    // in the run.
     fn reads(&self) -> Result<(), RowFault> {
         for at in 0..=self.stream.input.len() {
             let pieces = Pieces::failing(self.stream.input.as_slice(), at as u64);
@@ -254,8 +255,8 @@ impl Trials<'_> {
         Ok(count)
     }
 
-    // Returns the wanted outcome if the writing of a call's reply ends after `written` bytes. The call is
-    // done.
+    // Returns the wanted outcome if the writing of a call's reply ends after `written` bytes. The State has
+    // the change of this call.
     fn stopped(&self, call: usize, written: usize) -> Wanted<'_> {
         let done = call.saturating_add(1).min(self.stream.calls.len());
         let reply = self.stream.reply(call);

@@ -123,8 +123,8 @@ fn entries_reported(alloc: Global, map: &Map) -> Result<String, RowFault> {
 }
 
 /// Answers `over KEY VALUE .. under KEY VALUE ..`: lays the first map over the second. The answer is the
-/// entries of the result, the length of the result in bytes, and whether the second map had each entry of the
-/// first.
+/// entries of the result, the length of the result in bytes, and `had each` if the second map had each entry
+/// of the first, otherwise `had not each`.
 pub(crate) fn over_answer(alloc: Global, words: &[&str]) -> Result<String, RowFault> {
     let parts = words.iter().position(|word| *word == "under");
     let place = parts.ok_or(RowFault::NotRow)?;

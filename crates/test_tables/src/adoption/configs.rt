@@ -1,4 +1,4 @@
-//! The configurations that rows name.
+//! The configurations that test rows name.
 
 use csi_config::Config;
 use std::alloc::Global;

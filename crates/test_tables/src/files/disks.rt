@@ -22,7 +22,7 @@ pub(crate) struct Faulty<D: Disk> {
     writes_left: u64,
     refused: u64,
     lie: Option<Lie>,
-    // The number of reads that a digest found wrong, and of other reads that failed.
+    // The number of reads that a digest found wrong, and the number of other reads that failed.
     caught: u64,
     failed: u64,
 }

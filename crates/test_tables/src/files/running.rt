@@ -24,7 +24,7 @@ impl Observer for Unheard {
 
     fn refused(&self, _cause: &Error) {}
 
-    // Rows refuse memory in another way, so there is always room.
+    // The test rows refuse memory in another way, so there is always room.
     fn has_room(&self, _opening: usize) -> bool {
         true
     }
@@ -41,7 +41,7 @@ fn end_word(end: RunEnd) -> &'static str {
     }
 }
 
-// Writes the report of a run as a text.
+// Returns the report of a run as a text.
 fn report_text(alloc: Global, word: &str, report: &RunReport) -> Result<String, AllocError> {
     let end = end_word(report.end);
     let made = if report.is_new { ", made" } else { "" };
@@ -53,7 +53,7 @@ fn report_text(alloc: Global, word: &str, report: &RunReport) -> Result<String, 
     )
 }
 
-// Writes the reason why a database was refused as a text.
+// Returns the reason why a database was refused as a text.
 fn refusal_text(alloc: Global, refusal: &Refusal) -> Result<String, AllocError> {
     match refusal {
         Refusal::Blank => String::from_str(alloc, "blank"),
@@ -62,7 +62,8 @@ fn refusal_text(alloc: Global, refusal: &Refusal) -> Result<String, AllocError> 
     }
 }
 
-// Writes the reason why files were not closed after calls as a text.
+// Returns the failure of a run as a text: the reason why no call was served, or the report of the calls if
+// the files were not closed after them.
 fn failure_text<D: Disk + Drop>(
     alloc: Global,
     failure: &RunFailure<D>,

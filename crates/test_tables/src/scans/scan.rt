@@ -1,4 +1,4 @@
-//! The scans that rows name.
+//! The scans that test rows name.
 
 use crate::database::refused;
 use csi_constraints::{scan_attachments, scan_meta, scan_owners, scan_places, scan_volumes};
@@ -30,7 +30,7 @@ impl Scan {
     }
 
     /// Passes each row of the scan to a fold. Fails with [`RowFault::Refused`] if the database has other
-    /// tables, or a read of it fails.
+    /// tables or a read of it fails, and with [`RowFault::NoMemory`] if memory is refused.
     pub(crate) fn over<S: Alter, F: Fold>(
         self,
         conn: &mut IdleConnection<S>,

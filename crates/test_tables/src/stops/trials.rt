@@ -8,11 +8,11 @@ use sqlite_disk::{Files, Memory};
 use std::fmt;
 use test_kit::RowFault;
 
-// A number above the number of calls of the disk that any row makes.
+// A number above the number of calls of the disk in a run of any test row.
 const MOST_CALLS: u64 = 1_000_000;
 
-/// The outcomes that at least one run of a row had. The next start found the State before the call, it found
-/// the State that the call leaves, or the call was answered.
+/// The outcomes that at least one run of a test row had. The next start found the State before the call, it
+/// found the State that the call leaves, or the call was answered.
 #[derive(Clone, Copy)]
 pub(crate) struct Seen {
     before: bool,
@@ -44,8 +44,8 @@ impl fmt::Display for Seen {
     }
 }
 
-/// The part of a run in which the disk stops or has a trouble, and whether the disk also stops in the next
-/// start. All runs of one row of the test have the same `Way`.
+/// The part of a run in which the disk stops or has a trouble. One of the ways also stops the disk in the
+/// next start. All runs of one test row have the same `Way`.
 #[derive(Clone, Copy)]
 pub(crate) enum Way {
     /// The disk stops at any time from the opening to the end of the call. The next start does not stop.
@@ -53,7 +53,8 @@ pub(crate) enum Way {
     /// The disk stops at any time from the opening to the end of the call. The next start also stops, after
     /// the same number of calls of the disk.
     Twice,
-    /// The disk stops at any time from the opening to the close of the connection after the call.
+    /// The disk stops at any time from the opening to the close of the connection after the call. The next
+    /// start does not stop.
     Closing,
     /// The disk has this trouble at any time in a run of `csi_files`, from the opening to the close.
     Running(Trouble),
@@ -82,7 +83,7 @@ pub(crate) struct Trials<'a> {
 }
 
 impl<'a> Trials<'a> {
-    /// Makes the trials of a row, before the first run.
+    /// Makes the trials of a test row, before the first run.
     pub(crate) fn new(wanted: Wanted<'a>, step: u64, way: Way) -> Trials<'a> {
         Trials {
             wanted,

@@ -11,7 +11,7 @@ use csi_types::{Items, MAX_MAP_BYTES, Map, Text, map_bytes};
 use std::alloc::{AllocError, Global};
 use test_kit::{RowFault, number_at, word_at, words_of};
 
-/// Calls the method of the keeper that a row names, and returns the answer as a text.
+/// Calls the method of the keeper that a test row names, and returns the answer as a text.
 pub(crate) fn call<K: Keeper>(
     alloc: Global,
     keeper: &mut K,
