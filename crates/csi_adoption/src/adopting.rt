@@ -402,9 +402,9 @@ pub fn adopt<S: Alter>(
     adopt_into(alloc, conn, config, &mut content)
 }
 
-/// Checks the tables of a database, and makes a keeper over them, like [`adopt`]. Also returns the numbers of
-/// volumes and attachments, which the checks count without a further read. A database without tables gets new
-/// tables.
+/// Checks the tables of a database, and makes a keeper over them, like [`adopt`]. Also returns the next
+/// number and the numbers of volumes and attachments, which the checks count without a further read. A
+/// database without tables gets new tables.
 ///
 /// # Errors
 ///

@@ -22,13 +22,13 @@ pub enum Foreign {
     /// A value in a row of volumes does not have the type of its column.
     #[error("volume {number}: a value is not of the kind of its column")]
     Volume {
-        /// The number of the volume in the row.
+        /// The number of the volume in the row, or 0 if this value is not an integer.
         number: i64,
     },
     /// A value in a row of attachments does not have the type of its column.
     #[error("row {rowid} of attachments: a value is not of the kind of its column")]
     Attachment {
-        /// The rowid of the row in the table of attachments.
+        /// The rowid of the row in the table of attachments, or 0 if this value is not an integer.
         rowid: i64,
     },
 }

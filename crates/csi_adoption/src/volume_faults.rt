@@ -12,7 +12,8 @@ use csi_rules::is_overcommitted;
 use csi_types::copy_text;
 use std::alloc::Global;
 
-/// Checks that no volume broke a constraint. `found` names the first row that broke it.
+/// Checks that no volume broke a constraint. `found` names the first row that broke it, or is `None`. In the
+/// fault, a missing number is 0.
 pub(crate) fn check_volume(
     found: &Option<RowName>,
     constraint: VolumeConstraint,

@@ -53,8 +53,8 @@ fn params_at(alloc: Global, row: &Row, at: usize) -> Result<Option<(Map, Map)>, 
     }
 }
 
-/// Tests that `caps` of a volume is the canonical bytes of at least one capability, and that the capabilities
-/// are in order and supported.
+/// Tests that `caps` of a volume is the canonical bytes of at least one capability, that the capability keys
+/// rise without duplicates, and that each is supported.
 #[derive(Clone, Copy)]
 pub struct HasCaps {
     /// The allocator of the decoded capabilities.

@@ -3,7 +3,7 @@
 //!
 //! A *scan* is a query with a fixed text. `scans.rt` has the five scans: the table `meta`, volumes by number,
 //! attachments by rowid, attachments by number, and attachments with the caps of their volumes.
-//! `csi_sql::each_row` passes the rows of the answer to a `csi_sql::Fold`, in order. `specs/Scans.antt`
+//! `csi_sql::each_row` passes the rows to a `csi_sql::Fold`, in the order of the query. `specs/Scans.antt`
 //! defines the rows of each scan, and `specs/facts/` has the facts that follow if each row passes a test.
 //!
 //! A *fold* is a value that takes rows one by one, such as a sum. Its relation `folds` relates the fold

@@ -42,8 +42,9 @@ impl KnownCaps {
     }
 }
 
-/// Finds the first attachment whose volume does not exist or lacks the attachment's capability. The rows come
-/// from `scan_owners`.
+/// Finds the first attachment whose volume does not exist or lacks the attachment's capability. An attachment
+/// also breaks this constraint if one of the two cannot be decoded: its capability, or the capabilities of
+/// its volume. The rows come from `scan_owners`.
 ///
 /// The fold keeps the caps that were decoded last. So the caps of a volume are decoded once for consecutive
 /// attachments of the volume.

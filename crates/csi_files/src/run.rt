@@ -71,10 +71,11 @@ pub struct Run<'a, O> {
 pub struct RunReport {
     /// The reason why the run ended, as the server reports it.
     pub end: RunEnd,
-    /// The number of calls that the store refused, at most 2^64 - 1.
+    /// The number of calls that the store refused, at most 2^64 - 1. This includes calls that were refused
+    /// because the store was down.
     pub refusals: u64,
-    /// True if the store was down at the end. The store then refused each call after the call that brought it
-    /// down.
+    /// True if the store was down at the end: a change had failed. Each later call that read or changed the
+    /// store was refused.
     pub is_down: bool,
     /// True if reads were answered from a copy of the volumes in memory, false if the file answered them.
     pub is_copied: bool,

@@ -64,16 +64,16 @@ impl<O: Observer> Run<'_, O> {
     /// Serves the volume machine over a database file and its WAL. Makes a database if the files hold none
     /// yet, opens the files, adopts their tables, serves calls, and closes the files.
     ///
-    /// The run depends only on the State that the files have before it (`HasState`). The table of ends of
-    /// `csi_server::serve` shows which bytes are read and written, how the run ends and which calls it
+    /// The run depends only on the State that the files have before it (`HasState`). The clause `serves` of
+    /// `csi_server::serve` states which bytes are read and written, how the run ends and which calls it
     /// counts. After the run the files have the State after these calls. A first run starts from the first
     /// State, also if a stop interrupted the making of the database (`MayStart`). Files without tables get
     /// new tables and the first State, unless the options require existing tables. If memory has no room for
     /// a copy of the volumes, reads are answered from the file.
     ///
     /// These promises hold while the disks return the bytes that were written to them (`AreClean`). Over any
-    /// disk, each call that was read has its reply, in order (`writes`), and after `Ok` the store has refused
-    /// no call.
+    /// disk, one reply is written for each call that was read, in the order of the calls, until a write fails
+    /// (`writes`). After `Ok` the store has refused no call.
     ///
     /// # Errors
     ///

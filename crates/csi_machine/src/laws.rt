@@ -44,7 +44,7 @@ pub fn ids()
 {}
 
 /// If the State before a request meets the invariant, and the request passes the checks of its arguments, the
-/// State after the request meets the invariant. This holds whether or not the request is answered.
+/// State after the request meets the invariant. This also holds if the request is refused.
 #[inline(always)]
 pub fn kept(config: &Config)
     ensures { (s : State) (r : Request) → IsInvariant config.now s → checked r ≡ None
@@ -55,7 +55,7 @@ pub fn kept(config: &Config)
 
 /// No two volumes ever get the same number. A request never lowers the number for the next volume, and never
 /// gives a volume the number of a deleted volume. If a volume exists before and after a request, only its
-/// mutable parameters may change. This holds whether or not the request is answered.
+/// mutable parameters may change. This also holds if the request is refused.
 #[inline(always)]
 pub fn numbers(config: &Config)
     ensures { (s : State) (r : Request) → IsInvariant config.now s → checked r ≡ None

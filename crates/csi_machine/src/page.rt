@@ -59,7 +59,8 @@ fn put_first(
     Ok(())
 }
 
-// Appends the entry of a volume. Looks up or encodes the placement of its pool.
+// Appends the entry of a volume. Encodes the placement of the volume's pool if the page has no volume of this
+// pool yet.
 #[inline(always)]
 fn put_row(
     alloc: Global,
@@ -122,7 +123,7 @@ impl PageFold for Page<'_> {
     }
 }
 
-/// A [`PageFold`] that only finds out if a page has any volume.
+/// A [`PageFold`] that takes the volumes of a page and only keeps if there was one.
 #[derive(Drop)]
 pub(crate) struct AnyVolume {
     /// True after a volume was added. Initially false.

@@ -52,8 +52,8 @@ impl Fuse {
 /// A keeper in memory that refuses one call, which is chosen by its number. Calls are counted from 0.
 /// [`refusals`](Keeper::refusals) and [`is_down`](FusedMem::is_down) are not counted.
 ///
-/// If the refused call is a read, later calls succeed. If the refused call is [`apply`](Keeper::apply), the
-/// change is not made, and each later call fails with `Down`. The volumes end with the process, so a stop
+/// If the refused call is a read, no later call is refused. If the refused call is [`apply`](Keeper::apply),
+/// the change is not made, and each later call fails with `Down`. The volumes end with the process, so a stop
 /// leaves nothing.
 #[derive(Drop)]
 pub struct FusedMem {

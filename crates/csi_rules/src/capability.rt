@@ -9,7 +9,7 @@ use std::alloc::{AllocError, Global};
 use std::collections::BTreeSet;
 
 // The greatest number of keys that are compared one by one. If there are more keys, they are put into a set
-// first. The keys of a volume are in order by the invariant. But a `requires` cannot name the invariant, so
+// first. The keys of a volume are sorted by the invariant. But a `requires` cannot name the invariant, so
 // each comparison builds the set.
 const FEW_KEYS: usize = 4;
 

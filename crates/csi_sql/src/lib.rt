@@ -16,7 +16,7 @@
 //! - [`reads`] has one transaction for each read, which is rolled back: a read returns rows, changes nothing,
 //!   and adds nothing to what a stop may leave. [`values`] decodes the cells of a row as numbers, flags,
 //!   texts and bytes.
-//! - [`each_row`] passes the rows of a query to a [`Fold`], in order, and keeps no row.
+//! - [`each_row`] passes the rows of a query to a [`Fold`], in the order of the query, and keeps no row.
 //! - [`statements`] has the statements, each with a fixed text, inside a transaction that the caller ends. It
 //!   has a module for each table, and the SELECTs of rows are the variants of one enum
 //!   (`statements/select.rt`).

@@ -36,7 +36,8 @@ use std::slice::from_ref;
 /// The numbers in rows are below this number, since integers of SQLite are below 2^63.
 pub(crate) const NUMBERS: u64 = 1 << 63;
 
-// Reserves the memory that counting one more volume in a pool needs.
+// Reserves the memory that counting one more volume in a pool needs. Fails with `Refused` if the pool's total
+// cannot count the volume.
 fn reserve(alloc: Global, totals: &mut Totals, pool: &Text, bytes: u64) -> Result<(), TablesError>
     ensures room { OnOk result (HasRoom (total_of totals.old pool.now) bytes) }
     ensures reserved { OnOk result (IsReserved totals.new pool.now) }

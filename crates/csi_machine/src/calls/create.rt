@@ -155,7 +155,7 @@ fn create_fresh<'a, K: Keeper>(
     Ok(fresh(alloc, config, &rooms, next, request)?)
 }
 
-/// Plans CreateVolume, by reads of the keeper alone. `no_segments` must be an empty map. It stands for the
+/// Plans CreateVolume, by reads of the keeper alone. `no_segments` must be an empty map. It is used as the
 /// segments of a pool that the configuration lacks.
 ///
 /// If a volume with this name exists and is compatible with the request, the answer is that volume. If it
