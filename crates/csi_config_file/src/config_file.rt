@@ -49,7 +49,8 @@ pub enum Key {
     Name,
     /// `vendor_version`, the version of the plugin, which GetPluginInfo returns.
     VendorVersion,
-    /// `default_bytes`, the size in bytes of a volume created without a requested size.
+    /// `default_bytes`, the size in bytes of a volume that is created without a required size and without a
+    /// smaller limit.
     DefaultBytes,
     /// `greatest_bytes`, the greatest size of a volume in bytes.
     GreatestBytes,

@@ -56,7 +56,8 @@ pub enum Reason {
     NodeNotFound,
     /// A volume with this name exists, and differs from what the request asks for.
     VolumeNotCompatible,
-    /// No pool that serves the topology has room for the volume.
+    /// No pool has room for the volume and serves a topology of the request. If the request has no requisite
+    /// topology, no pool at all has room.
     NoRoom,
     /// The plugin has 100,000 volumes, which is the greatest number.
     TooManyVolumes,
@@ -79,7 +80,7 @@ pub enum Reason {
     BadToken,
     /// With the requested changes, the mutable parameters of the volume would have more than 4,096 bytes.
     MutableTooLarge,
-    /// The reply would be longer than 4,194,304 bytes.
+    /// The body of the reply would be longer than 4,194,304 bytes.
     ReplyTooLarge,
     /// Memory was refused while the call was executed.
     OutOfMemory,
