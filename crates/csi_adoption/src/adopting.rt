@@ -47,7 +47,7 @@ use std::alloc::Global;
 /// The reason why tables were not adopted, and the connection to their database.
 #[derive(Drop)]
 pub struct AdoptError<S: Alter> {
-    /// The first rule that the database breaks, or the error of a failed read or write.
+    /// The first rule that the database breaks, or the failure of a read or a write, or the lack of memory.
     pub fault: AdoptFault,
     /// The connection to the database. No transaction is open on the connection.
     pub conn: Connection<S>,
@@ -386,8 +386,8 @@ fn adopt_into<S: Alter>(
 ///
 /// # Not promised
 ///
-/// The contract does not say when the database or memory fails, and does not fix the displayed texts. Rows of
-/// `test_tables` show both. If the rowids of a file do not rise, the fault is that the database failed.
+/// The contract does not say when the database or memory fails, and does not fix the displayed texts. Cases
+/// of `test_tables` show both. If the rowids of a file do not rise, the fault is that the database failed.
 /// `sqlite` opens no file with such rowids.
 pub fn adopt<S: Alter>(
     alloc: Global,

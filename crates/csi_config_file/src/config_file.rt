@@ -42,7 +42,8 @@ impl fmt::Display for Section {
     }
 }
 
-/// A key of a configuration file. Its `Display` is the key as it is written in the file.
+/// A key of a configuration file. Its `Display` is the spelling of the key in the file, such as
+/// `vendor_version`.
 #[derive(Clone, Copy, Debug)]
 pub enum Key {
     /// `name`, the name of the plugin or of a pool.
@@ -69,7 +70,7 @@ pub enum Key {
 }
 
 impl Key {
-    // Returns the key as it is written in the file.
+    // Returns the spelling of the key in the file.
     pub(crate) fn text(self) -> &'static str
         ensures { result.now ≡ key_text self }
     {

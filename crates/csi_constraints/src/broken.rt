@@ -57,7 +57,7 @@ pub enum BrokenConstraint {
     /// A row of volumes breaks one of the constraints for volumes.
     #[error("volume {number}: {constraint}")]
     Volume {
-        /// The volume's number, as it is in the row.
+        /// The volume's number in the row, or 0 if the value is not an integer.
         number: i64,
         /// The first constraint that the row breaks, in the order in which the constraints are tested.
         constraint: VolumeConstraint,
@@ -71,9 +71,9 @@ pub enum BrokenConstraint {
     /// A row of attachments breaks one of the constraints for attachments.
     #[error("volume {number} at node {node}: {constraint}")]
     Attachment {
-        /// The volume's number, as it is in the row.
+        /// The volume's number in the row, or 0 if the value is not an integer.
         number: i64,
-        /// The id of the node, as it is in the row.
+        /// The id of the node in the row, or an empty text if the value is not a text in UTF-8.
         node: Text,
         /// The first constraint that the row breaks, in the order in which the constraints are tested.
         constraint: AttachmentConstraint,

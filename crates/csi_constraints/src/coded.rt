@@ -82,7 +82,7 @@ impl RowTrial for HasCaps {
 pub struct HasParams {
     /// The allocator of the decoded parameters.
     pub alloc: Global,
-    /// The number of the tables' format, as it is in the table `meta`.
+    /// The number of the tables' format, from the table `meta`.
     pub format: u32,
 }
 

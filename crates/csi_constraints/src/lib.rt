@@ -16,8 +16,8 @@
 //! - [`FirstBroken`] finds the first row that breaks a constraint, with the number and the text that name the
 //!   row. The `Display` of [`BrokenConstraint`] is the message about the row.
 //! - [`FirstUnowned`] and [`FirstApart`] test the two constraints that depend on earlier rows.
-//!   [`FirstUnowned`] keeps the capabilities of the last volume (`Known`). [`FirstApart`] keeps one
-//!   attachment that represents all attachments of the last volume (`Apart`).
+//!   [`FirstUnowned`] keeps the capabilities of the last volume (`specs/Known.antt`). [`FirstApart`] keeps
+//!   one attachment that represents all attachments of the last volume (`specs/Apart.antt`).
 //!
 //! A *constraint* is a function in `specs/` from a row to a Bool. The constraints in `Kinds` are about the
 //! types of columns, in `Volumes` and `Attachments` about numbers and texts, and in `Coded` about encoded

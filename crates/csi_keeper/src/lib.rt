@@ -12,7 +12,7 @@
 //!
 //! - [`Totals`]: the running totals of pools
 //! - [`copy_volume`], [`copy_attachment`]: copies of volumes and attachments
-//! - [`Health`]: the count of refusals, and whether a keeper is down
+//! - [`Health`]: the count of refusals, and if a keeper is down
 //! - [`listed_at`], [`listed_each`], [`PageFold`]: the entries of a listing, and folds over them
 //!
 //! ```rust

@@ -123,7 +123,7 @@ impl PageFold for Page<'_> {
     }
 }
 
-/// A [`PageFold`] that takes the volumes of a page and only keeps if there was one.
+/// A [`PageFold`] that only finds out if a page has any volume.
 #[derive(Drop)]
 pub(crate) struct AnyVolume {
     /// True after a volume was added. Initially false.

@@ -24,8 +24,8 @@ use csi_types::{Items, Map, Text, copy_map, copy_text};
 use std::alloc::{AllocError, Global};
 use std::collections::{BTreeMap, BTreeSet};
 
-/// A keeper in memory. It is never down. A call fails only if memory is refused. The State is then unchanged,
-/// and later calls may succeed. The volumes end with the process, so a stop leaves nothing.
+/// A keeper in memory. It is never down. A call fails only if an allocation is refused. The State is then
+/// unchanged, and later calls may succeed. The volumes end with the process, so a stop leaves nothing.
 ///
 /// Each volume is stored once, and the values that calls return are copies. For n volumes, m attachments, p
 /// pools and d nodes with attachments, calls take this time:

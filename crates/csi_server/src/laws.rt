@@ -131,7 +131,8 @@ pub fn pending<K: Keeper>(config: &Config)
 {}
 
 /// A call with a known path, a readable message and valid arguments gets the machine's answer to its request.
-/// Any other call changes nothing, and its reply does not depend on the State. Each valid request has a call.
+/// Any other call changes nothing, and its reply does not depend on the State. Each request that can be
+/// encoded and passes the checks has a call.
 pub fn asking()
     ensures exact { (call : CallBytes) (r : Request) → (asked call ≡ Some r) ↔ Asks call r }
     ensures answered { (config : AnyConfig) (s : MachineState) (call : CallBytes) (r : Request)
@@ -180,7 +181,7 @@ pub fn tries<K: Keeper>(config: &Config)
 /// new connection starts from the State that the stop left.
 ///
 /// Contracts are about calls that return. A process that ends inside a call leaves the same files as a run
-/// whose disk fails from that moment on. Rows of `test_tables` about stops show this.
+/// whose disk fails from that moment on. Cases of `test_tables` about stops show this.
 pub fn retry(config: &Config)
     ensures { (s t : MachineState) (requests : List Request) (sessions : List (List Exchange))
         (heard : List ReplyBytes) → IsInvariant config.now s

@@ -44,7 +44,7 @@
 //! # Not promised
 //!
 //! A statement may fail. An error may say that memory was refused although it was not, since a store may
-//! report this at any time. If the disk failed, the error does not name the fault of the disk. Rows of
+//! report this at any time. If the disk failed, the error does not name the fault of the disk. Cases of
 //! `test_tables` show that an INSERT is refused if its volume number, its name or its attachment exists.
 #![tactic(auto)]
 

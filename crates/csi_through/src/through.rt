@@ -54,8 +54,8 @@ fn start_change(health: &mut Health, is_current: bool) -> Result<(), StoreFault>
 /// A keeper that reads from a keeper in memory, and passes each change to a change store first.
 ///
 /// Its State is the State of the change store, and a stop leaves what a stop of the change store leaves. If
-/// the change store fails to make a change, also for lack of memory, the keeper is down: each further call
-/// returns `Down`.
+/// the change store fails to make a change, also because an allocation is refused, the keeper is down: each
+/// further call returns `Down`.
 ///
 /// If the change store made a change but the keeper in memory did not, the call still returns `Ok`. The
 /// keeper in memory is then out of date: each read before the next change returns `Refused`. The next change
@@ -132,7 +132,7 @@ impl<K: Keeper> Through<MemKeeper, KeeperChanges<K>> {
     ///
     /// # Errors
     ///
-    /// If a read of `keeper` fails or memory is refused. The error contains `keeper`, whose State is
+    /// If a read of `keeper` fails or an allocation is refused. The error contains `keeper`, whose State is
     /// unchanged.
     pub fn over(
         alloc: Global,
@@ -157,7 +157,7 @@ impl<D: ChangeStore + Drop> Through<MemKeeper, D> {
     ///
     /// # Errors
     ///
-    /// Returns the fault of a read of `keeper`, or `NoMemory` if memory is refused.
+    /// Returns the fault of a read of `keeper`, or `NoMemory` if an allocation is refused.
     pub fn copied<K: Keeper>(
         alloc: Global,
         keeper: &mut K,

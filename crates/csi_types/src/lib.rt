@@ -20,7 +20,7 @@
 //!
 //! # Not promised
 //!
-//! The `Debug` output of a value may change, although rows of `test_bytes` show it. The memory that a value
+//! The `Debug` output of a value may change, although cases of `test_bytes` show it. The memory that a value
 //! takes may change too.
 #![tactic(auto)]
 

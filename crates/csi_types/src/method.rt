@@ -23,7 +23,8 @@ pub enum Method {
     ControllerPublishVolume,
     /// `csi.v1.Controller.ControllerUnpublishVolume`: unpublishes a volume from one node or from all nodes.
     ControllerUnpublishVolume,
-    /// `csi.v1.Controller.ValidateVolumeCapabilities`: checks whether a volume has the given capabilities.
+    /// `csi.v1.Controller.ValidateVolumeCapabilities`: confirms that a volume has the given capabilities and
+    /// parameters, or says why not.
     ValidateVolumeCapabilities,
     /// `csi.v1.Controller.ListVolumes`: lists the volumes, page by page.
     ListVolumes,

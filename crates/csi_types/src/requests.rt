@@ -77,7 +77,8 @@ pub struct Publish {
     pub readonly: bool,
     /// `secrets`, field 5. This plugin checks their size and does not use them.
     pub secrets: Map,
-    /// `volume_context`, field 6: the context that CreateVolume returned.
+    /// `volume_context`, field 6: the context that CreateVolume returned. This plugin checks its size and does
+    /// not use it.
     pub context: Map,
 }
 
@@ -120,7 +121,8 @@ impl fmt::Debug for Unpublish {
 pub struct Validate {
     /// `volume_id`, field 1: the id of the volume that the question is about.
     pub volume_id: Text,
-    /// `volume_context`, field 2: the context that CreateVolume returned.
+    /// `volume_context`, field 2: the context that CreateVolume returned. This plugin checks its size and does
+    /// not use it.
     pub context: Map,
     /// `volume_capabilities`, field 3: the capabilities that the volume may have.
     pub capabilities: Items<Capability>,

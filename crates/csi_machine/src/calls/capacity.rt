@@ -86,7 +86,8 @@ fn capacity_of(
 }
 
 /// Plans GetCapacity. The answer is the free bytes of the pools that serve the topology, and the greatest
-/// size that a volume can have in one of them. Both are 0 if a capability is not supported.
+/// size that a volume can have in one of them. Without a topology, all pools count. Both numbers are 0 if a
+/// capability is not supported.
 impl Planned for GetCapacity {
     ghost planned = { capacity };
 

@@ -143,6 +143,17 @@ fn publish_node<K: Keeper>(
     Ok(publish_at(alloc, &target, request)?)
 }
 
+/// Plans ControllerPublishVolume. If the volume is attached to the node with the same capability key and the
+/// same `readonly` flag, nothing changes and the answer is the same as for a volume that is published.
+///
+/// The request is refused in the first of these cases that applies:
+///
+/// - no volume or no node has the id
+/// - the capability is missing or has no key
+/// - the volume is attached to the node with another key or flag
+/// - the volume lacks the key
+/// - an attachment of the volume cannot coexist with the new attachment
+/// - the node has its greatest number of volumes
 impl Planned for Publish {
     ghost planned = { publish };
 
