@@ -59,7 +59,7 @@ pub enum BrokenConstraint {
     Volume {
         /// The volume's number in the row, or 0 if the value is not an integer.
         number: i64,
-        /// The first constraint that the row breaks, in the order in which the constraints are tested.
+        /// The first constraint that the row breaks, in the order in which `csi_adoption` tests them.
         constraint: VolumeConstraint,
     },
     /// The sizes of a pool's volumes add up to more than the size of the pool.
@@ -75,7 +75,7 @@ pub enum BrokenConstraint {
         number: i64,
         /// The id of the node in the row, or an empty text if the value is not a text in UTF-8.
         node: Text,
-        /// The first constraint that the row breaks, in the order in which the constraints are tested.
+        /// The first constraint that the row breaks, in the order in which `csi_adoption` tests them.
         constraint: AttachmentConstraint,
     },
     /// More volumes are attached to a node than the node can have.

@@ -30,7 +30,7 @@ pub trait Observer {
     /// Returns true if the process has memory for its calls and for the next opening of the tables, which
     /// takes `opening` bytes. A run calls this function before each page of volumes that it copies into
     /// memory, and as the tables grow. If the function returns false, the volumes are not copied, and a
-    /// change that adds rows fails as if memory were refused.
+    /// change that adds rows or sets parameters fails as if memory were refused.
     ///
     /// An implementation must count limits at which the process is killed, such as the memory limit of a
     /// Linux control group. It need not count limits at which an allocation fails.
@@ -47,8 +47,8 @@ pub struct RunOptions {
     pub is_low_memory: bool,
     /// The memory in bytes that an opening of the tables takes, since an opening reads each table whole.
     /// While reads are answered from the file, this memory is held for the next opening, as far as the system
-    /// gives it. A call that adds rows holds memory for them first. The call fails if this memory is refused
-    /// or the observer has no room.
+    /// gives it. A call that adds rows or sets parameters first holds memory for the bytes that it adds. The
+    /// call fails if this memory is refused or the observer has no room.
     pub reserve: usize,
 }
 

@@ -1,4 +1,4 @@
-//! Counts the calls that a keeper refused, and keeps if the keeper is down.
+//! Counts the calls that a keeper refused, and records if the keeper is down.
 
 ghost use Rattle.std.specs.Prelude.{◌≡◌, ◌≢◌, ◌+◌, ◌-◌, ◌^◌, min, true, false, Err, OnOk, OnErr};
 ghost use Rattle.csi_keeper.specs.Keeper.{count_after};

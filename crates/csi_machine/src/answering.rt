@@ -95,7 +95,7 @@ fn append_creation<K: Keeper>(
 ///
 /// # Errors
 ///
-/// Returns the fault of the keeper, or [`StoreFault::NoMemory`] if memory for the body is refused. The State
+/// Returns the fault of the keeper, or [`StoreFault::NoMemory`] if memory is refused. The State
 /// is unchanged, but a stop may then leave the State with the change. `out` is unchanged after an error and
 /// after a refusal.
 ///
@@ -132,7 +132,7 @@ pub fn append_answer<K: Keeper>(
 ///
 /// # Errors
 ///
-/// Returns the fault of the keeper, or [`StoreFault::NoMemory`] if memory for the body is refused. The State
+/// Returns the fault of the keeper, or [`StoreFault::NoMemory`] if memory is refused. The State
 /// is unchanged, but a stop may then leave the State with the change. `out` is empty after an error and after
 /// a refusal.
 pub fn answer<K: Keeper>(

@@ -80,7 +80,7 @@ pub(crate) fn make_volume<S: Alter>(
 }
 
 // Handles a change that has no effect, such as the removal of a volume number that no row can have. Makes one
-// read, which fails if the connection is shut. After `Ok` a stop leaves the State.
+// read, which fails if the connection is shut. After `Ok` a stop leaves only the unchanged State.
 fn make_nothing<S: Alter>(conn: &mut IdleConnection<S>) -> Result<(), TablesError>
     ensures { ConnStays S.Store conn.old conn.new result }
 {

@@ -38,7 +38,7 @@ pub enum Reason {
     SourceNotSupported,
     /// Two keys of one topology differ only in the case of ASCII letters.
     TopologyKeysAlike,
-    /// A preferred topology is not among the requisite topologies.
+    /// Requisite topologies are given, and a preferred topology is not among them.
     PreferredNotRequisite,
     /// `volume_id` is empty.
     VolumeIdMissing,
@@ -72,7 +72,7 @@ pub enum Reason {
     /// The volume is published to the requested node already, with another capability or another `readonly`
     /// flag.
     PublishedOtherwise,
-    /// The node already has the greatest number of published volumes.
+    /// The node already has its greatest number of published volumes (`max_volumes` in the configuration).
     NodeFull,
     /// The volume does not have the requested capability.
     CapabilityNotOfVolume,

@@ -3,7 +3,7 @@
 //! An embedded message is written in place: first a field with an empty payload, then the fields of the
 //! message. Then the length of the payload is set.
 //!
-//! If memory is refused, each function fails, and may have appended a part of the field.
+//! If memory is refused, each `put_` function fails, and may have appended a part of the field.
 
 ghost use Rattle.std.specs.Prelude.{◌≡◌, ◌++◌, ◌∷◌, [], ◌≤◌, ◌<◌, ◌^◌, List, OnOk, OnErr, option_to_list, length, take};
 ghost use Rattle.std.specs.FinMap.{empty, entries, insert};
