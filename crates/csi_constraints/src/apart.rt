@@ -16,7 +16,7 @@ use csi_sql::Fold;
 use sqlite::{Error, Row};
 use std::alloc::Global;
 
-/// One attachment that represents all attachments of a volume that the scan has met so far. If another
+/// One attachment that represents all attachments of its volume up to the last row of the scan. If another
 /// attachment can coexist with this one, it can coexist with all of them.
 #[derive(Drop)]
 pub struct LastAttachment {

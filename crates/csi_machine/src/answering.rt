@@ -91,13 +91,13 @@ fn append_creation<K: Keeper>(
 ///
 /// The promises about the State hold while the keeper's doubt is 0, that is, while the keeper's store returns
 /// what was written to it. They hold for each State that the keeper may have, if this State meets the
-/// invariant. After an answer that changed the State, a stop leaves the changed State.
+/// invariant.  After an answer that changed the State, a stop leaves the changed State.
 ///
 /// # Errors
 ///
-/// Returns the fault of the keeper, or [`StoreFault::NoMemory`] if memory is refused. The State
-/// is unchanged, but a stop may then leave the State with the change. `out` is unchanged after an error and
-/// after a refusal.
+/// Returns the fault of the keeper, or [`StoreFault::NoMemory`] if memory is refused. The State is unchanged,
+/// but a stop may then leave the State with the change. `out` is unchanged after an error and after a
+/// refusal.
 ///
 /// # Not promised
 ///
@@ -132,9 +132,8 @@ pub fn append_answer<K: Keeper>(
 ///
 /// # Errors
 ///
-/// Returns the fault of the keeper, or [`StoreFault::NoMemory`] if memory is refused. The State
-/// is unchanged, but a stop may then leave the State with the change. `out` is empty after an error and after
-/// a refusal.
+/// Returns the fault of the keeper, or [`StoreFault::NoMemory`] if memory is refused. The State is unchanged,
+/// but a stop may then leave the State with the change. `out` is empty after an error and after a refusal.
 pub fn answer<K: Keeper>(
     alloc: Global,
     config: &Config,

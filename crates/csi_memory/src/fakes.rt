@@ -1,4 +1,4 @@
-//! Keepers for tests, which fail at a chosen call.
+//! A keeper for tests, which fails at a chosen call.
 
 ghost use Rattle.std.specs.Prelude.{◌≡◌, ◌≢◌, ◌≤◌, ◌^◌, ◌↔◌, false, Some, Err, IfOk, IsTrue, is_some};
 ghost use Rattle.std.specs.FinMap.{get};

@@ -1,8 +1,7 @@
 //! A keeper in memory.
 //!
-//! The rows are in ordered maps and not in vectors, so searches by number or name and removals take
-//! logarithmic time. A call over 100,000 volumes, with removed volumes between them, costs little more than a
-//! call over a few.
+//! The rows are in ordered maps and not in vectors: searches by number or name and removals take logarithmic
+//! time. So a search among the greatest number of volumes costs little more than a search among a few.
 
 ghost use Rattle.std.specs.Prelude.{◌≤◌, ◌<◌, ◌^◌, IfOk, OnOk, OnErr};
 ghost use Rattle.csi_keeper.specs.State.{State, Allows, changed, first_state};

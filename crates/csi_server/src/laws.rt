@@ -51,8 +51,9 @@ pub fn stop_leaves_state<C, S: Service<C>>(config: &C)
 {}
 
 /// Each reply in a run of any service is valid in the envelope. Its status is a status code. If the status is
-/// 0, the reply has a body and no text. If the status is not 0, the reply has a text and no body. This
-/// includes the replies to calls that are refused for memory or by the store.
+/// 0, the text is empty, and the body is the response, which may have no bytes. If the status is not 0, the
+/// body is empty, and the text is the reason. This includes the replies to calls that are refused for memory
+/// or by the store.
 pub fn formed<C, S: Service<C>>(config: &C)
     ensures { (old new : S) (s : S.State) (events : List Event)
         → Runs (S.machine config.now) (S.model config.now old) (S.model config.now new) s events

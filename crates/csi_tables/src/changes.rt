@@ -97,7 +97,8 @@ fn write_cap(alloc: Global, cap: &CapKey) -> Result<Vec<u8>, AllocError>
     write_caps(alloc, from_ref(cap))
 }
 
-/// Adds the row of an attachment of a volume at a node.
+/// Adds the row of an attachment of a volume at a node. Fails with `Refused` if the number is 2^63 or above,
+/// or if the volume is attached to the node already.
 pub(crate) fn make_attachment<S: Alter>(
     alloc: Global,
     conn: &mut IdleConnection<S>,
@@ -124,7 +125,7 @@ pub(crate) fn make_attachment<S: Alter>(
     Ok(())
 }
 
-/// Deletes the row of a volume's attachment at a node.
+/// Deletes the row of a volume's attachment at a node. If there is no such row, nothing changes.
 pub(crate) fn unmake_attachment<S: Alter>(
     conn: &mut IdleConnection<S>,
     number: u64,
@@ -141,7 +142,7 @@ pub(crate) fn unmake_attachment<S: Alter>(
     Ok(())
 }
 
-/// Deletes the rows of all attachments of a volume.
+/// Deletes the rows of all attachments of a volume. If there are none, nothing changes.
 pub(crate) fn unmake_attachments<S: Alter>(
     conn: &mut IdleConnection<S>,
     number: u64,
@@ -157,8 +158,9 @@ pub(crate) fn unmake_attachments<S: Alter>(
     Ok(())
 }
 
-/// Removes a volume. Reads its pool and its size first, so that updating the pool's total needs no memory
-/// after the removal. The other columns of the row are not decoded, which would take memory.
+/// Removes a volume. If no volume has the number, nothing changes. Reads the volume's pool and size first, so
+/// that updating the pool's total needs no memory after the removal. The other columns of the row are not
+/// decoded, which would take memory.
 pub(crate) fn unmake_volume<S: Alter>(
     conn: &mut IdleConnection<S>,
     totals: &mut Totals,
@@ -191,8 +193,8 @@ fn params_of(volume: Option<Volume>) -> Option<Map>
     }
 }
 
-/// Replaces the mutable parameters of a volume. Reads the volume first, since its other parameters are in the
-/// same column and stay.
+/// Replaces the mutable parameters of a volume. If no volume has the number, nothing changes. Reads the
+/// volume first, since its other parameters are in the same column and stay.
 pub(crate) fn make_mutable<S: Alter>(
     alloc: Global,
     conn: &mut IdleConnection<S>,
