@@ -328,8 +328,8 @@ fn roll_back<S: Alter>(conn: &mut Connection<S>)
     conn.transaction().rollback();
 }
 
-// Checks the tables of a database, makes a keeper over them, and sets `content` to the numbers of their rows.
-// A database without tables gets new tables, and `content` is unchanged.
+// Checks the tables of a database, makes a keeper over them, and sets `content` to the numbers of their rows
+// and the next number. A database without tables gets new tables, and `content` is unchanged.
 fn adopt_into<S: Alter>(
     alloc: Global,
     mut conn: Connection<S>,

@@ -18,7 +18,8 @@ pub enum VolumeConstraint {
     /// The size in bytes is a positive multiple of 1 MiB.
     #[error("its bytes are not a positive multiple of 1048576")]
     Bytes,
-    /// `caps` encodes at least one capability. Their keys rise without duplicates, and each is supported.
+    /// `caps` encodes at least one capability. The keys of the capabilities rise without duplicates, and each
+    /// is supported.
     #[error("its caps are not the bytes of supported capabilities in order")]
     Caps,
     /// `params` encodes the parameters and the mutable parameters, each of at most 4,096 bytes. In tables of

@@ -10,8 +10,7 @@ ghost use Rattle.csi_types.specs.declared.limits.TheConstants.{MAX_NUMBER};
 
 use csi_config::Config;
 
-/// Whether two attachments can coexist does not depend on their order: `coexist a b` and `coexist b a` are
-/// equal.
+/// For any two attachments, `coexist a b` and `coexist b a` are equal: the order of the two does not matter.
 #[inline(always)]
 #[tactic(auto, using(crate::specs::facts::Coexistence::coexist_turned))]
 pub fn coexist_symmetric()

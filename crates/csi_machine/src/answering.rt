@@ -21,9 +21,9 @@ use csi_keeper::{Keeper, StoreFault};
 use csi_types::{CreateVolume, Map, Request};
 use std::alloc::Global;
 
-// Appends the body of a plan's response, and then makes the plan's change. If the request is refused, or
-// memory for the body, nothing is appended and the State is unchanged. If the keeper returns a fault, the
-// body is removed from the reply.
+// Appends the body of a plan's response, and then makes the plan's change. If the request or memory for the
+// body is refused, nothing is appended and the State is unchanged. If the keeper returns a fault, the body is
+// removed from the reply.
 #[inline(always)]
 fn finish<K: Keeper, P: Outcome>(
     alloc: Global,

@@ -150,7 +150,8 @@ pub fn asking()
 /// The calls of a session are tries of the requests in the calls. The State after the calls is the State
 /// after the tries, and the replies that clients hear are the answers to the tries. The States that a stop
 /// may leave ([`pending`]) are the same for both. If a stop before a run could leave only the State at the
-/// start, a stop after the run leaves a State that the tries leave. This holds over any keeper.
+/// start, a stop after the run leaves only States that a stop after the tries may leave. This holds over any
+/// keeper.
 pub fn tries<K: Keeper>(config: &Config)
     ensures after { (s : MachineState) (session : List Exchange)
         → state_after (volumes config.now) s (events_of session)

@@ -28,7 +28,7 @@ use std::cell::Cell;
 ///   effect on later calls.
 /// - `Refused` means that the database refused the call, for example after a fault of the disk, or that a row
 ///   cannot be decoded. It never means that memory was refused.
-/// - The totals of a pool are read from memory, without a transaction.
+/// - The keeper has the totals of the pools outside the tables, so reading them needs no transaction.
 /// - No call changes the connection's limit on steps. A read of a number of 2^63 or above, which no row has,
 ///   takes no memory.
 ///

@@ -27,7 +27,8 @@ pub struct CreateVolume {
     pub secrets: Map,
     /// True if `volume_content_source`, field 6, is present. Its content is not kept.
     pub source: bool,
-    /// `accessibility_requirements`, field 7: the topologies from which the volume must be accessible.
+    /// `accessibility_requirements`, field 7: the topologies from which the volume must be accessible, or
+    /// `None` if the field is absent. Then any pool will do.
     pub topology: Option<Requirement>,
     /// `mutable_parameters`, field 8: the parameters that can be changed later.
     pub mutable: Map,
@@ -78,8 +79,8 @@ pub struct Publish {
     pub readonly: bool,
     /// `secrets`, field 5. This plugin checks their size and does not use them.
     pub secrets: Map,
-    /// `volume_context`, field 6: the context that CreateVolume returned. This plugin checks its size and does
-    /// not use it.
+    /// `volume_context`, field 6: the context that CreateVolume returned. This plugin checks its size and
+    /// does not use it.
     pub context: Map,
 }
 
@@ -122,8 +123,8 @@ impl fmt::Debug for Unpublish {
 pub struct Validate {
     /// `volume_id`, field 1: the id of the volume that the question is about.
     pub volume_id: Text,
-    /// `volume_context`, field 2: the context that CreateVolume returned. This plugin checks its size and does
-    /// not use it.
+    /// `volume_context`, field 2: the context that CreateVolume returned. This plugin checks its size and
+    /// does not use it.
     pub context: Map,
     /// `volume_capabilities`, field 3: the capabilities that the volume may have.
     pub capabilities: Items<Capability>,

@@ -148,7 +148,7 @@ fn publish_node<K: Keeper>(
 ///
 /// The request is refused in the first of these cases that applies:
 ///
-/// - no volume or no node has the id
+/// - no volume has the volume id, or no node of the configuration has the node id
 /// - the capability is missing or has no key
 /// - the volume is attached to the node with another key or flag
 /// - the volume lacks the key
