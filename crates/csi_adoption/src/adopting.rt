@@ -409,7 +409,8 @@ pub fn adopt<S: Alter>(
 /// # Errors
 ///
 /// The first rule that the tables break, with the row that a scan finds first, or a failure of the database
-/// or of memory. The last commit is unchanged, and the error contains the connection.
+/// or of memory. The last commit is unchanged, and the error contains the connection. [`adopt`] says what a
+/// stop may leave.
 ///
 /// # Not promised
 ///

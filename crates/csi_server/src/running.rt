@@ -26,7 +26,7 @@ pub(crate) enum PieceOutcome {
     Fed,
     // A frame is malformed. The calls before it were answered.
     Faulty(FrameFault),
-    // A reply was not written or flushed completely.
+    // Writing or flushing a reply failed.
     Cut,
 }
 

@@ -87,7 +87,8 @@ pub enum Reason {
     /// The store refused a read or a change of the call. No change is visible. But if the store refused a
     /// change, the change may be visible after a restart.
     StoreRefused,
-    /// The store failed during an earlier call, and takes no call until it is opened again.
+    /// A change of an earlier call failed, perhaps only for lack of memory. The store takes no call until it
+    /// is opened again.
     StoreDown,
 }
 

@@ -70,7 +70,8 @@ fn is_key_alike_before(topology: &Map, count: usize, key: &Text) -> bool
 }
 
 // Returns true if two keys of the topology differ at most in ASCII case. Sorts the segments by their keys and
-// compares neighbours. The sorted segments are a large local variable, so the call is not inlined.
+// compares neighbours. If the topology has more than `MOST_SEGMENTS` segments, compares all pairs instead.
+// The sorted segments are a large local variable, so the call is not inlined.
 #[inline(never)]
 fn has_alike_neighbours(topology: &Map) -> bool
     ensures { result ≡ has_alike_keys topology.now }
@@ -123,7 +124,8 @@ fn is_within_few(inner: &Map, outer: &Map) -> bool
 }
 
 // Returns true if `outer` has each segment of `inner`. Looks for each segment of `inner` among the sorted
-// segments of `outer`. The sorted segments are a large local variable, so the call is not inlined.
+// segments of `outer`. If `outer` has more than `MOST_SEGMENTS` segments, compares all pairs instead. The
+// sorted segments are a large local variable, so the call is not inlined.
 #[inline(never)]
 fn is_within_many(inner: &Map, outer: &Map) -> bool
     ensures { result ≡ is_within inner.now outer.now }
