@@ -125,7 +125,7 @@ pub enum ConfigError {
         /// The line of the first fault, counted from 1.
         line: usize,
     },
-    /// A key is missing, or its value has the wrong type.
+    /// A key is missing, or its value has the wrong type or is below 0.
     #[error("{section}the key '{key}' {rule}")]
     Key {
         /// The part of the document that has or lacks the key.
@@ -429,8 +429,8 @@ fn line_of(before: &[u8]) -> usize {
 /// # Errors
 ///
 /// - [`ConfigError::NotToml`] if the bytes are not UTF-8 or not a TOML document.
-/// - [`ConfigError::Key`] if a key is missing or its value has the wrong type. The error has the first key
-///   with such a fault, in the order above.
+/// - [`ConfigError::Key`] if a key is missing, or its value has the wrong type or is below 0. The error has
+///   the first key with such a fault, in the order above.
 /// - [`ConfigError::Fault`] if the configuration that was read breaks a rule. The error has the first fault
 ///   that [`Config::new`] finds.
 /// - [`ConfigError::NoMemory`] if memory is refused. The document may then have a fault too.

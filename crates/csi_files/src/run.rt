@@ -12,7 +12,7 @@ use sqlite_disk::Disk;
 use std::alloc::Global;
 
 /// The observer of a run. The run reports to it each step before the first call. After the last call, the run
-/// reports the first error of the database.
+/// reports the first error of the database, if there was one.
 pub trait Observer {
     /// Called after new tables were made, in a database that had no table.
     fn made(&self);
