@@ -379,7 +379,9 @@ fn adopt_into<S: Alter>(
 /// upgrading the tables failed, a stop may leave the new or upgraded tables.
 ///
 /// - The first rule that the tables break, with the row that a scan finds first. This fault is not possible
-///   if the rows are the rows of a State that meets every constraint.
+///   if the connection is open and the rows are the rows of a State that meets every constraint. If a fault
+///   has shut the connection, no row is checked, and the fault may be
+///   [`Foreign::Schema`](crate::Foreign::Schema).
 /// - A failure of the database: the disk failed, a fault shut the connection, or the database refused a
 ///   statement. This fault says nothing about the rows.
 /// - A lack of memory, which says nothing about the rows either.

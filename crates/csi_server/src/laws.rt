@@ -148,10 +148,11 @@ pub fn asking()
 }
 
 /// The calls of a session are tries of the requests in the calls. The State after the calls is the State
-/// after the tries, and the replies that clients hear are the answers to the tries. The States that a stop
-/// may leave ([`pending`]) are the same for both. If a stop before a run could leave only the State at the
-/// start, a stop after the run leaves only States that a stop after the tries may leave. This holds over any
-/// keeper.
+/// after the tries, and the replies that the client hears to its requests are the answers to the tries.
+/// Refusals for memory, by the store or because the store is down are not among these replies. The States
+/// that a stop may leave ([`pending`]) are the same for both. If a stop before a run could leave only the
+/// State at the start, a stop after the run leaves only States that a stop after the tries may leave. This
+/// holds over any keeper.
 pub fn tries<K: Keeper>(config: &Config)
     ensures after { (s : MachineState) (session : List Exchange)
         → state_after (volumes config.now) s (events_of session)
@@ -170,11 +171,12 @@ pub fn tries<K: Keeper>(config: &Config)
 /// If a client repeats each of its requests until it hears the reply, each request is executed once (CSI
 /// specification, 'Timeouts').
 ///
-/// The first State meets the invariant. A call may be refused for memory or by the store, a reply may be
-/// lost, and a stop may end the session between any two calls and leave a State of [`pending`]. At any time
-/// other clients may make calls that change nothing, such as Probe, ListVolumes and GetCapacity. They may
-/// also make calls that contain no request or are refused for their arguments. The replies that the client
-/// hears, and the State at the end, are the same as if each request were executed once.
+/// The first State meets the invariant. A call may be refused for memory, by the store or because the store
+/// is down; the client then repeats the request. A reply may be lost, and a stop may end the session between
+/// any two calls and leave a State of [`pending`]. At any time other clients may make calls that change
+/// nothing, such as Probe, ListVolumes and GetCapacity. They may also make calls that contain no request or
+/// are refused for their arguments. The other replies that the client hears, and the State at the end, are
+/// the same as if each request were executed once.
 ///
 /// # Not promised
 ///
