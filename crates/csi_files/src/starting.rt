@@ -90,9 +90,9 @@ impl<O: Observer> Run<'_, O> {
     /// even if memory allows it.
     ///
     /// The contract does not cover a stop while this program repairs a file in which an earlier release was
-    /// stopped. It also does not exclude that such a file is refused because of its WAL. Cases of tests show
-    /// both. If an opening fails while it reads the schema, the clauses speak of the trees that the store
-    /// reads, and not of bytes.
+    /// stopped. It also does not exclude that such a file is refused because of its WAL. Tests show both. If
+    /// an opening fails while it reads the schema, the clauses speak of the trees that the store reads, and
+    /// not of bytes.
     pub fn create_and_serve<D: Disk + Drop, R: Read, W: Write>(
         &self,
         files: Files<D>,

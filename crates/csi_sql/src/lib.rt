@@ -9,7 +9,8 @@
 //! - [`make_tables`] makes the tables and the first row of `meta` in one transaction. [`is_our_schema`]
 //!   compares a schema with the schema of the tables, part by part (`specs/Ours.antt`). It compares the
 //!   meanings of the CREATE statements, and not their texts.
-//! - [`IdleConnection`] is a connection on which no transaction is open. All functions below take one.
+//! - [`IdleConnection`] is a connection on which no transaction is open. The functions of [`changes`] and
+//!   [`reads`], and [`each_row`], take one.
 //! - [`changes`] has one transaction for each change. After `Ok` the change is made and committed; after an
 //!   error the tables are unchanged. A stop leaves tables that it could also have left before the change, or
 //!   the tables with the change.

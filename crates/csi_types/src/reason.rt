@@ -56,8 +56,8 @@ pub enum Reason {
     NodeNotFound,
     /// A volume with this name exists, and differs from what the request asks for.
     VolumeNotCompatible,
-    /// No pool has room for the volume and serves a topology of the request. If the request has no requisite
-    /// topology, no pool at all has room.
+    /// No pool both has room for the volume and serves a topology of the request. If the request has no
+    /// requisite topology, no pool at all has room.
     NoRoom,
     /// The plugin has 100,000 volumes, which is the greatest number.
     TooManyVolumes,

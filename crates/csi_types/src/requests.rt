@@ -16,8 +16,8 @@ use std::fmt;
 pub struct CreateVolume {
     /// `name`, field 1: the name that the client chose for the volume.
     pub name: Text,
-    /// `capacity_range`, field 2: the requested range of sizes, or `None` if the field is absent. Without a
-    /// range, any size will do.
+    /// `capacity_range`, field 2: the requested range of sizes, or `None` if the field is absent. Then a new
+    /// volume has the default size, and an existing volume may have any size.
     pub range: Option<CapacityRange>,
     /// `volume_capabilities`, field 3: the ways in which the volume must be usable.
     pub capabilities: Items<Capability>,

@@ -144,7 +144,7 @@ fn publish_node<K: Keeper>(
 }
 
 /// Plans ControllerPublishVolume. If the volume is attached to the node with the same capability key and the
-/// same `readonly` flag, nothing changes and the answer is the same as for a volume that is published.
+/// same `readonly` flag, nothing changes, and the answer is the same as for a new publication.
 ///
 /// The request is refused in the first of these cases that applies:
 ///
