@@ -53,7 +53,8 @@ fn check_pools(alloc: Global, pools: &[Pool], bytes: &[TextSum]) -> Result<(), A
     }
 }
 
-// Checks the next number. It is 0 if the row of `meta` has a number that is not between 1 and 2^62.
+// Checks the next number. The argument is 0 if the row of `meta` has a next number that is not between 1 and
+// 2^62.
 fn check_next(next: u64) -> Result<(), AdoptFault>
     ensures { Reports (next_fault next) result }
 {

@@ -42,8 +42,8 @@ pub trait Observer {
 pub struct RunOptions {
     /// If true, a database without tables is refused. If false, it gets new tables.
     pub is_existing: bool,
-    /// If true, reads are answered from the file. If false, the volumes are copied into memory if it has room
-    /// for them, and reads are answered from the copy.
+    /// If true, reads are answered from the file. If false, the volumes are copied into memory if memory has
+    /// room for them, and reads are then answered from the copy.
     pub is_low_memory: bool,
     /// The memory in bytes that an opening of the tables takes, since an opening reads each table whole.
     /// While reads are answered from the file, this memory is held for the next opening, as far as the system

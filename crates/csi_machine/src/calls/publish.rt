@@ -55,7 +55,7 @@ fn attach(alloc: Global, target: &Target, mine: Attachment) -> Result<Plan, Allo
     make(alloc, answer, Change::Attach(target.number, mine))
 }
 
-/// Returns the attachment to this node, or `None` if the volume is not attached to it.
+/// Returns the attachment to this node, or `None` if no attachment in the list is to this node.
 pub(crate) fn attachment_at<'a>(
     attachments: &'a [Attachment],
     node: &Text,
