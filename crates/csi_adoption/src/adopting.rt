@@ -389,8 +389,8 @@ fn adopt_into<S: Alter>(
 /// # Not promised
 ///
 /// The contract does not say when the database or memory fails, and does not fix the displayed texts. Cases
-/// of `test_tables` show both. If the rowids of a file do not rise, the fault is that the database failed.
-/// `sqlite` opens no file with such rowids.
+/// of `test_tables` show the faults and their texts. If the rowids of a file do not rise, the fault is that
+/// the database failed. `sqlite` opens no file with such rowids.
 pub fn adopt<S: Alter>(
     alloc: Global,
     conn: Connection<S>,

@@ -78,10 +78,10 @@ impl<O: Observer> Run<'_, O> {
     /// # Errors
     ///
     /// `NotOpened` means that the files were not opened, and `Refused` that their database was refused. No
-    /// call was read and no reply written, and the next run starts as this run would have. `Left` means that
-    /// the store refused a call, and `NotClosed` that copying the WAL into the database file failed. After
-    /// `Left` or `NotClosed`, calls were served as after `Ok`. The files have the State after the calls, or
-    /// the State that a refused call would have made.
+    /// call was read and no reply written, and the next run starts from the State from which this run would
+    /// have started. `Left` means that the store refused a call, and `NotClosed` that copying the WAL into
+    /// the database file failed. After `Left` or `NotClosed`, calls were served as after `Ok`. The files have
+    /// the State after the calls, or the State that a refused call would have made.
     ///
     /// # Not promised
     ///
@@ -90,9 +90,9 @@ impl<O: Observer> Run<'_, O> {
     /// even if memory allows it.
     ///
     /// The contract does not cover a stop while this program repairs a file in which an earlier release was
-    /// stopped. It also does not exclude that such a file is refused because of its WAL. Tests show both. If
-    /// an opening fails while it reads the schema, the clauses speak of the trees that the store reads, and
-    /// not of bytes.
+    /// stopped. It also does not exclude that such a file is refused because of its WAL. Tests cover such a
+    /// stop and the opening of such a file. If an opening fails while it reads the schema, the clauses speak
+    /// of the trees that the store reads, and not of bytes.
     pub fn create_and_serve<D: Disk + Drop, R: Read, W: Write>(
         &self,
         files: Files<D>,

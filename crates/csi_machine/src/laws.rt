@@ -108,9 +108,9 @@ pub fn walk(config: &Config)
 /// answered with a volume of this size in a pool of the configuration. The volume then exists. If the
 /// GetCapacity request has no topology, this holds for a CreateVolume without requisite topologies.
 ///
-/// The CreateVolume may have any range that results in this size, such as a range with this size as both
-/// limits. Its name must be new. The greatest number of volumes must not be reached, and the volume numbers
-/// must not be used up.
+/// The CreateVolume may have any range that results in this size, such as a range whose required size and
+/// limit are this size. Its name must be new. The greatest number of volumes must not be reached, and the
+/// volume numbers must not be used up.
 #[inline(always)]
 pub fn room(config: &Config)
     ensures chosen { (s : State) (g : GetCapacity) (available n : ℕ) → IsInvariant config.now s

@@ -180,7 +180,7 @@ fn has_segment(topology: &Map, key: &Text, value: &Text) -> bool
 }
 
 /// Returns true if two topologies have the same segments. The case of ASCII letters in keys is ignored.
-/// Neither `one` nor `other` may have two keys that differ only in this case.
+/// Neither `one` nor `other` may have two keys that differ only in the case of ASCII letters.
 pub fn same_topology(one: &Map, other: &Map) -> bool
     requires keys_differ { has_alike_keys one.now ≡ false }
     requires other { has_alike_keys other.now ≡ false }
