@@ -51,7 +51,7 @@ pub enum AdoptFault {
     /// The database failed a read or a write, with this error.
     #[error("the database failed: {0}")]
     Store(SqlError),
-    /// Memory was refused.
+    /// Memory was refused while the tables were checked, made or upgraded. This says nothing about the rows.
     #[error("out of memory")]
     NoMemory,
 }

@@ -17,9 +17,10 @@ pub enum Method {
     Probe,
     /// `csi.v1.Controller.CreateVolume`: creates a volume, or returns the existing volume with the name.
     CreateVolume,
-    /// `csi.v1.Controller.DeleteVolume`: deletes a volume.
+    /// `csi.v1.Controller.DeleteVolume`: deletes a volume that is published to no node. The call also
+    /// succeeds if the volume does not exist.
     DeleteVolume,
-    /// `csi.v1.Controller.ControllerPublishVolume`: publishes a volume to a node.
+    /// `csi.v1.Controller.ControllerPublishVolume`: publishes a volume to a node, with one capability.
     ControllerPublishVolume,
     /// `csi.v1.Controller.ControllerUnpublishVolume`: unpublishes a volume from one node or from all nodes.
     ControllerUnpublishVolume,

@@ -13,19 +13,19 @@ use std::fmt;
 /// offset in the message.
 #[derive(Clone, Copy, Debug, PartialEq, Eq)]
 pub enum Reason {
-    /// `name` is empty.
+    /// `CreateVolumeRequest.name` is empty.
     NameMissing,
-    /// `name` has more than 128 bytes.
+    /// `CreateVolumeRequest.name` has more than 128 bytes.
     NameTooLong,
-    /// `name` has a control character other than tab, line feed and carriage return.
+    /// `CreateVolumeRequest.name` has a control character other than tab, line feed and carriage return.
     NameBanned,
-    /// No volume capability is given.
+    /// No volume capability is given to CreateVolume, ControllerPublishVolume or ValidateVolumeCapabilities.
     CapabilityMissing,
     /// A volume capability has neither `block` nor `mount`.
     AccessTypeMissing,
     /// The access mode of a volume capability is absent or unknown.
     AccessModeUnknown,
-    /// A requested capability is not supported: no volume can have it.
+    /// CreateVolume asks for a capability that no volume can have.
     CapabilityNotSupported,
     /// `required_bytes` or `limit_bytes` is below 0.
     CapacityNegative,
@@ -42,11 +42,11 @@ pub enum Reason {
     PreferredNotRequisite,
     /// `volume_id` is empty.
     VolumeIdMissing,
-    /// `node_id` is empty.
+    /// `ControllerPublishVolumeRequest.node_id` is empty.
     NodeIdMissing,
     /// `ListVolumesRequest.max_entries` (field 1) is below 0.
     MaxEntriesNegative,
-    /// `mutable_parameters` has no entry.
+    /// `ControllerModifyVolumeRequest.mutable_parameters` has no entry.
     MutableMissing,
     /// No method has the path of the call.
     UnknownMethod,

@@ -36,7 +36,7 @@ pub trait Message<P>: Drop {
     fn is_good(number: u32, payload: &[u8]) -> bool
         ensures { IsTrue result ↔ Good schema number payload.now };
 
-    /// Merges a field with a varint into the value.
+    /// Merges a field with a varint into the value. A field with an unknown number changes nothing.
     fn merge_number(&mut self, number: u32, value: u64)
         ensures { (v : Views) → self.old ≡ of v → self.new ≡ of (with_number number value v) };
 
