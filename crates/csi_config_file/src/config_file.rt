@@ -24,7 +24,7 @@ use toml::{Table, Value};
 /// [`Section::Top`] is empty.
 #[derive(Clone, Copy, Debug)]
 pub enum Section {
-    /// The top of the document: the keys before the first table.
+    /// The top of the document: the keys outside the tables of `pool` and `node`.
     Top,
     /// A table of the array `pool`. The value is the table's number, counted from 1.
     Pool(usize),

@@ -36,7 +36,8 @@ pub trait Message<P>: Drop {
     fn is_good(number: u32, payload: &[u8]) -> bool
         ensures { IsTrue result ↔ Good schema number payload.now };
 
-    /// Merges a field with a varint into the value. A field with an unknown number changes nothing.
+    /// Merges a field with a varint into the value. If no number or flag of the message has this field
+    /// number, the value is unchanged.
     fn merge_number(&mut self, number: u32, value: u64)
         ensures { (v : Views) → self.old ≡ of v → self.new ≡ of (with_number number value v) };
 
