@@ -18,8 +18,8 @@ use std::alloc::{AllocError, Global};
 /// order of the bytes. The order of fields with different numbers does not matter, except for the members of
 /// a oneof.
 ///
-/// `P` stands for the package of the message. The crate that implements this trait must have its own type
-/// `P`, since the type of the value may belong to another crate.
+/// `P` is a type that represents the Protocol Buffers package of the message. The crate that implements this
+/// trait must have its own type `P`, since the type of the value may belong to another crate.
 pub trait Message<P>: Drop {
     /// The field numbers of the texts and embedded messages.
     ghost schema: { Schema };

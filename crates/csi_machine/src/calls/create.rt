@@ -21,7 +21,9 @@ use csi_types::{
 };
 use std::alloc::{AllocError, Global};
 
-// Returns true if an existing volume, whose pool has these segments, is compatible with the request.
+// Returns true if an existing volume, whose pool has these segments, is compatible with the request: the pool
+// serves a requisite topology if one is given, the size is within the range, the volume has each capability,
+// its parameters are equal, and it has each mutable parameter of the request.
 fn is_compatible(
     alloc: Global,
     segments: &Map,

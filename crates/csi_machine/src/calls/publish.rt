@@ -151,7 +151,7 @@ fn publish_node<K: Keeper>(
 /// - no volume has the volume id, or no node of the configuration has the node id
 /// - the capability is missing or has no key
 /// - the volume is attached to the node with another key or flag
-/// - the volume lacks the key
+/// - the volume has neither the key nor its wider key (`csi_keeper::wider_key`)
 /// - an attachment of the volume cannot coexist with the new attachment
 /// - the node has its greatest number of volumes
 impl Planned for Publish {
