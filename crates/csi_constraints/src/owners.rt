@@ -92,7 +92,7 @@ fn have_key(last: &Option<KnownCaps>, key: &CapKey) -> bool
     }
 }
 
-// Returns true if the volume of an attachment exists and has its capability.
+// Returns true if the volume of an attachment exists and has the attachment's capability.
 fn is_owned(alloc: Global, last: &mut Option<KnownCaps>, row: &Row) -> Result<bool, Error>
     ensures known { AreCached last.old → AreCached last.new }
     ensures exact { AreCached last.old → IfOk result (λ owned. owned ≡ is_owned row.now) }

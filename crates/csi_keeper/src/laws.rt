@@ -17,7 +17,7 @@ pub fn coexist_symmetric()
     ensures { (a b : Attachment) → coexist a b ≡ coexist b a }
 {}
 
-/// A State without volumes meets the invariant if its next number is from 1 to 2^62.
+/// A State without volumes and attachments meets the invariant if its next number is from 1 to 2^62.
 #[inline(always)]
 pub fn first(config: &Config)
     ensures { (n : ℕ) → 1 ≤ n → n ≤ MAX_NUMBER → IsInvariant config.now (first_state n) }

@@ -160,7 +160,8 @@ pub struct ListVolumes {
 pub struct GetCapacity {
     /// `volume_capabilities`, field 1: the capabilities that new volumes must have.
     pub capabilities: Items<Capability>,
-    /// `parameters`, field 2: the parameters of new volumes, which this plugin does not use.
+    /// `parameters`, field 2: the parameters of new volumes. This plugin checks their size and does not use
+    /// them.
     pub parameters: Map,
     /// `accessible_topology`, field 3: the segments of the topology from which new volumes must be
     /// accessible. It is `None` if the field is absent, and then all pools count.
