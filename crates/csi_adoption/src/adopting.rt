@@ -47,7 +47,7 @@ use std::alloc::Global;
 /// The reason why tables were not adopted, and the connection to their database.
 #[derive(Drop)]
 pub struct AdoptError<S: Alter> {
-    /// The first rule that the database breaks, or the error of a failed read or write.
+    /// The first rule that the database breaks, or the failure of a read or a write, or the lack of memory.
     pub fault: AdoptFault,
     /// The connection to the database. No transaction is open on the connection.
     pub conn: Connection<S>,
@@ -328,8 +328,8 @@ fn roll_back<S: Alter>(conn: &mut Connection<S>)
     conn.transaction().rollback();
 }
 
-// Checks the tables of a database, makes a keeper over them, and sets `content` to the numbers of their rows.
-// A database without tables gets new tables, and `content` is unchanged.
+// Checks the tables of a database, makes a keeper over them, and sets `content` to the numbers of their rows
+// and the next number. A database without tables gets new tables, and `content` is unchanged.
 fn adopt_into<S: Alter>(
     alloc: Global,
     mut conn: Connection<S>,
@@ -379,16 +379,18 @@ fn adopt_into<S: Alter>(
 /// upgrading the tables failed, a stop may leave the new or upgraded tables.
 ///
 /// - The first rule that the tables break, with the row that a scan finds first. This fault is not possible
-///   if the rows are the rows of a State that meets every constraint.
+///   if the connection is open and the rows are the rows of a State that meets every constraint. If a fault
+///   has shut the connection, no row is checked, and the fault may be
+///   [`Foreign::Schema`](crate::Foreign::Schema).
 /// - A failure of the database: the disk failed, a fault shut the connection, or the database refused a
 ///   statement. This fault says nothing about the rows.
 /// - A lack of memory, which says nothing about the rows either.
 ///
 /// # Not promised
 ///
-/// The contract does not say when the database or memory fails, and does not fix the displayed texts. Rows of
-/// `test_tables` show both. If the rowids of a file do not rise, the fault is that the database failed.
-/// `sqlite` opens no file with such rowids.
+/// The contract does not say when the database or memory fails, and does not fix the displayed texts. Cases
+/// of `test_tables` show the faults and their texts. If the rowids of a file do not rise, the fault is that
+/// the database failed. `sqlite` opens no file with such rowids.
 pub fn adopt<S: Alter>(
     alloc: Global,
     conn: Connection<S>,
@@ -402,14 +404,15 @@ pub fn adopt<S: Alter>(
     adopt_into(alloc, conn, config, &mut content)
 }
 
-/// Checks the tables of a database, and makes a keeper over them, like [`adopt`]. Also returns the numbers of
-/// volumes and attachments, which the checks count without a further read. A database without tables gets new
-/// tables.
+/// Checks the tables of a database, and makes a keeper over them, like [`adopt`]. Also returns the next
+/// number and the numbers of volumes and attachments, which the checks count without a further read. A
+/// database without tables gets new tables.
 ///
 /// # Errors
 ///
 /// The first rule that the tables break, with the row that a scan finds first, or a failure of the database
-/// or of memory. The last commit is unchanged, and the error contains the connection.
+/// or of memory. The last commit is unchanged, and the error contains the connection. [`adopt`] says what a
+/// stop may leave.
 ///
 /// # Not promised
 ///

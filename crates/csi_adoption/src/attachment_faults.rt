@@ -20,7 +20,8 @@ fn text_of(alloc: Global, text: &Option<Text>) -> Result<Text, AllocError>
     }
 }
 
-/// Checks that no attachment broke a constraint. `found` names the first attachment that broke it.
+/// Checks that no attachment broke a constraint. `found` names the first attachment that broke it, or is
+/// `None`. In the fault, a missing number is 0 and a missing node is an empty text.
 ///
 /// # Errors
 ///

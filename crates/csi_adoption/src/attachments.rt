@@ -89,7 +89,7 @@ impl<'a> AttachmentsFold<'a> {
 }
 
 /// Scans the rows of attachments, each with its rowid: finds broken constraints, and counts the attachments
-/// of each node.
+/// of each node. Fails if the database or memory fails, or if the rowids do not rise.
 pub(crate) fn see_attachments<S: Alter>(
     alloc: Global,
     conn: &mut IdleConnection<S>,
@@ -113,8 +113,8 @@ pub(crate) fn see_attachments<S: Alter>(
     Ok(seen)
 }
 
-/// Returns the first attachment whose volume does not exist or does not have the attachment's capability, or
-/// `None`.
+/// Returns the first attachment, in rising order of volume numbers, whose volume does not exist or does not
+/// have the attachment's capability. Returns `None` if there is no such attachment.
 pub(crate) fn see_owners<S: Alter>(
     alloc: Global,
     conn: &mut IdleConnection<S>,
@@ -134,7 +134,8 @@ pub(crate) fn see_owners<S: Alter>(
     Ok(fold.found)
 }
 
-/// Returns the first attachment that cannot coexist with another attachment of its volume, or `None`.
+/// Returns the first attachment, in rising order of volume numbers, that cannot coexist with an earlier
+/// attachment of its volume. Returns `None` if there is no such attachment.
 pub(crate) fn see_apart<S: Alter>(
     alloc: Global,
     conn: &mut IdleConnection<S>,

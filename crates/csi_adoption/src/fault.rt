@@ -22,13 +22,13 @@ pub enum Foreign {
     /// A value in a row of volumes does not have the type of its column.
     #[error("volume {number}: a value is not of the kind of its column")]
     Volume {
-        /// The number of the volume in the row.
+        /// The number of the volume in the row, or 0 if this value is not an integer.
         number: i64,
     },
     /// A value in a row of attachments does not have the type of its column.
     #[error("row {rowid} of attachments: a value is not of the kind of its column")]
     Attachment {
-        /// The rowid of the row in the table of attachments.
+        /// The rowid of the row in the table of attachments, or 0 if this value is not an integer.
         rowid: i64,
     },
 }
@@ -51,7 +51,7 @@ pub enum AdoptFault {
     /// The database failed a read or a write, with this error.
     #[error("the database failed: {0}")]
     Store(SqlError),
-    /// Memory was refused.
+    /// Memory was refused while the tables were checked, made or upgraded. This says nothing about the rows.
     #[error("out of memory")]
     NoMemory,
 }

@@ -14,8 +14,8 @@
 //!   and nodes.
 //! - `volume_faults.rt` and `attachment_faults.rt` find the fault of a constraint, and `table_faults.rt` puts
 //!   the faults in order. Each `check_` function returns the first fault of its constraints. So calling these
-//!   functions in order with `?` finds the first fault of all.
-//! - `adopting.rt` calls the scans and the checks in order, and `content.rt` has the counts of rows.
+//!   functions with `?`, in the order of the constraints, finds the first fault of all.
+//! - `adopting.rt` calls the scans and then the checks, and `content.rt` has the counts of rows.
 //!
 //! Before the first scan, a transaction is begun and rolled back, so that the scans see the last commit. The
 //! joins of attachments are scanned after the attachments. Each attachment is then known to be at a node of

@@ -108,8 +108,8 @@ fn judge_integers(key: i64, format: i64, next: i64) -> Result<Meta, AdoptFault>
     })
 }
 
-/// Returns the format and the next number if `meta` has exactly one row and its format is known. Otherwise
-/// returns the fault.
+/// Returns the format and the next number if `meta` has exactly one row of integers, its key is 1 and its
+/// format is known. Otherwise returns the fault.
 pub(crate) fn judge_meta(rows: MetaRows) -> Result<Meta, AdoptFault>
     ensures { result ≡ meta_judged rows }
 {

@@ -12,7 +12,8 @@ use csi_rules::is_overcommitted;
 use csi_types::copy_text;
 use std::alloc::Global;
 
-/// Checks that no volume broke a constraint. `found` names the first row that broke it.
+/// Checks that no volume broke a constraint. `found` names the first row that broke it, or is `None`. In the
+/// fault, a missing number is 0.
 pub(crate) fn check_volume(
     found: &Option<RowName>,
     constraint: VolumeConstraint,
@@ -52,7 +53,8 @@ fn check_pools(alloc: Global, pools: &[Pool], bytes: &[TextSum]) -> Result<(), A
     }
 }
 
-// Checks the next number. It is 0 if the row of `meta` has a number that is not between 1 and 2^62.
+// Checks the next number. The argument is 0 if the row of `meta` has a next number that is not between 1 and
+// 2^62.
 fn check_next(next: u64) -> Result<(), AdoptFault>
     ensures { Reports (next_fault next) result }
 {

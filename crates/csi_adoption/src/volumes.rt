@@ -114,7 +114,8 @@ impl<'a> VolumesFold<'a> {
     }
 }
 
-/// Scans the rows of volumes: finds broken constraints, and sums the sizes of the volumes of each pool.
+/// Scans the rows of volumes: finds broken constraints, and sums the sizes of the volumes of each pool. Fails
+/// if the database or memory fails, or if the numbers of the rows do not rise.
 pub(crate) fn see_volumes<S: Alter>(
     alloc: Global,
     conn: &mut IdleConnection<S>,

@@ -11,7 +11,7 @@ use crate::places::{NO_PLACE, TABLE_LENGTH, first_slot, note, tried};
 use csi_types::{Items, MAX_MAP_BYTES, Map, Requirement, has_alike_keys, same_topology};
 use std::hash::DefaultHasher;
 
-// The greatest number of pairs of topologies that are compared without a table.
+// The greatest number of pairs of topologies that are compared without the table of `places.rt`.
 const FEW_PAIRS: usize = 64;
 
 /// Returns true if a topology of the requirement has more than 4,096 bytes.

@@ -48,8 +48,8 @@ pub fn one_meaning()
     spelled();
 }
 
-/// If bytes pass the checks of the request message of a method, they encode a request of the method. The same
-/// holds for responses.
+/// If the first pass of decoding finds no fault in bytes (`IsGoodRequest`), they encode a request of the
+/// method. The same holds for responses.
 pub fn a_meaning()
     ensures requests { (m : Method) (bytes : List ℕ) → IsGoodRequest m bytes → (r : Request)
         × MeansRequest m bytes r }

@@ -80,7 +80,7 @@ impl Written<Csi> for ListedEntry<'_> {
 }
 
 /// Appends an entry, encoded as a `ListVolumesResponse` that has only this entry. So a whole response is the
-/// encodings of its entries in order, and then the encoding of its token.
+/// encodings of its entries, in the order of the page, and then the encoding of its token.
 ///
 /// # Errors
 ///

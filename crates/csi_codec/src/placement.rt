@@ -14,8 +14,8 @@ use std::alloc::{AllocError, Global};
 const NO_NODES: [u8; 2] = [18, 0];
 
 /// The context and the topology that all volumes of a pool share, with their encoding (CSI specification, the
-/// fields `volume_context` and `accessible_topology` of `Volume`). So a listing encodes them once for each
-/// pool and not once for each volume.
+/// fields `volume_context` and `accessible_topology` of `Volume`). So a page of a listing encodes them once
+/// for each pool and not once for each volume.
 #[derive(Drop)]
 pub struct Placement {
     context: Map,

@@ -17,7 +17,8 @@ use std::alloc::{AllocError, Global};
 ///
 /// Fields may come in any order, and unknown fields are skipped. If a field occurs more than once, the result
 /// depends on its kind. For a number or a text, the last occurrence counts. An embedded message is merged
-/// from all occurrences. In a repeated field, each occurrence is one element. All bytes are checked for
+/// from all occurrences. In a repeated field, each occurrence is one element. In a map, the last entry with a
+/// key counts. Of the members of a oneof, the member that occurs last counts. All bytes are checked for
 /// faults before memory is taken.
 ///
 /// # Errors

@@ -16,8 +16,8 @@ use csi_types::{Map, Text};
 use pbmessage::{Written, put_map, put_message, put_presence, put_text};
 use std::alloc::{AllocError, Global};
 
-// The bytes that are reserved for each encoded capability. A block capability takes 8 bytes, and a mount
-// takes 10 bytes and the name of its file system.
+// The bytes that are reserved for each encoded capability. A block capability takes 8 bytes. A mount with a
+// file system type takes the bytes of the type and at least 10 more.
 const KEY_BYTES: usize = 16;
 
 // Marks messages that are encoded from borrowed parts, without a copy of the parts.

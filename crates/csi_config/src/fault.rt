@@ -71,7 +71,7 @@ pub enum ConfigFault {
     /// not a letter or digit.
     #[error("plugin name {name}: it is not 1 to 63 ASCII letters, digits, '-' and '.', the first and the last a letter or digit")]
     PluginName {
-        /// The plugin's name, as it is in the configuration.
+        /// The faulty name in the configuration.
         name: Text,
     },
     /// The plugin's version is empty or has more than 128 bytes.

@@ -57,7 +57,8 @@ fn is_named_before(pools: &[Pool], count: usize, name: &Text) -> bool
         .any(|earlier| earlier.name == *name)
 }
 
-// Returns true if a segment with this key and value breaks the rule.
+// Returns true if a segment with this key and value breaks the rule. Returns false for a rule that is not
+// about a single segment.
 fn breaks_segment(rule: PoolRule, key: &Text, value: &Text) -> bool
     ensures { result ≡ breaks_segment rule (key.now, value.now) }
 {

@@ -30,7 +30,7 @@ pub(crate) trait Ruled: Drop {
         ensures { result ≡ fault_of (name_of self) rule };
 }
 
-// Returns the place of the first item that breaks a rule, counted from 0.
+// Returns the index of the first item that breaks a rule, counted from 0, or `None` if no item breaks it.
 fn place_of<T: Ruled>(rule: T::Rule, items: &[T]) -> Option<usize>
     ensures value { result ≡ place_broken T.breaks_rule rule items.now }
     ensures within { IfSome result (λ place. place < length items.now) }

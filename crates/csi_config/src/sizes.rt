@@ -14,7 +14,7 @@ const _: () = prove!(GRANULE_BYTES == 1_048_576);
 /// The default size and the greatest size of a volume. Both are positive multiples of 1 MiB.
 #[derive(Clone, Copy, Debug)]
 pub struct Sizes {
-    /// The size in bytes of a volume created without a requested size.
+    /// The size in bytes of a volume that is created without a required size and without a smaller limit.
     pub default_bytes: u64,
     /// The greatest size of a volume in bytes: at least the default size, and at most 2^62.
     pub greatest_bytes: u64,

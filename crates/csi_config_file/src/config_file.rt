@@ -24,7 +24,7 @@ use toml::{Table, Value};
 /// [`Section::Top`] is empty.
 #[derive(Clone, Copy, Debug)]
 pub enum Section {
-    /// The top of the document: the keys before the first table.
+    /// The top of the document: the keys outside the tables of `pool` and `node`.
     Top,
     /// A table of the array `pool`. The value is the table's number, counted from 1.
     Pool(usize),
@@ -42,14 +42,16 @@ impl fmt::Display for Section {
     }
 }
 
-/// A key of a configuration file. Its `Display` is the key as it is written in the file.
+/// A key of a configuration file. Its `Display` is the spelling of the key in the file, such as
+/// `vendor_version`.
 #[derive(Clone, Copy, Debug)]
 pub enum Key {
     /// `name`, the name of the plugin or of a pool.
     Name,
     /// `vendor_version`, the version of the plugin, which GetPluginInfo returns.
     VendorVersion,
-    /// `default_bytes`, the size in bytes of a volume created without a requested size.
+    /// `default_bytes`, the size in bytes of a volume that is created without a required size and without a
+    /// smaller limit.
     DefaultBytes,
     /// `greatest_bytes`, the greatest size of a volume in bytes.
     GreatestBytes,
@@ -68,7 +70,7 @@ pub enum Key {
 }
 
 impl Key {
-    // Returns the key as it is written in the file.
+    // Returns the spelling of the key in the file.
     pub(crate) fn text(self) -> &'static str
         ensures { result.now ≡ key_text self }
     {
@@ -123,7 +125,7 @@ pub enum ConfigError {
         /// The line of the first fault, counted from 1.
         line: usize,
     },
-    /// A key is missing, or its value has the wrong type.
+    /// A key is missing, or its value has the wrong type or is below 0.
     #[error("{section}the key '{key}' {rule}")]
     Key {
         /// The part of the document that has or lacks the key.
@@ -427,8 +429,8 @@ fn line_of(before: &[u8]) -> usize {
 /// # Errors
 ///
 /// - [`ConfigError::NotToml`] if the bytes are not UTF-8 or not a TOML document.
-/// - [`ConfigError::Key`] if a key is missing or its value has the wrong type. The error has the first key
-///   with such a fault, in the order above.
+/// - [`ConfigError::Key`] if a key is missing, or its value has the wrong type or is below 0. The error has
+///   the first key with such a fault, in the order above.
 /// - [`ConfigError::Fault`] if the configuration that was read breaks a rule. The error has the first fault
 ///   that [`Config::new`] finds.
 /// - [`ConfigError::NoMemory`] if memory is refused. The document may then have a fault too.

@@ -32,8 +32,8 @@ impl Faults {
         Ok(())
     }
 
-    // Returns the value that was read. If the document has a fault there, adds the fault to the list and
-    // returns `None`. Fails if memory was refused.
+    // Returns the value that was read. If reading found a fault of the document, adds the fault to the list
+    // and returns `None`. Fails if memory was refused.
     fn keep<T: Drop>(&mut self, read: Result<T, ConfigError>) -> Result<Option<T>, AllocError> {
         match read {
             Ok(part) => Ok(Some(part)),

@@ -36,7 +36,7 @@ fn known_in(section: Section) -> &'static [Key]
 pub struct UnknownKey {
     /// The part of the document that contains the key.
     pub section: Section,
-    /// The key, as it is written in the file.
+    /// The spelling of the key in the file.
     pub key: String,
 }
 

@@ -16,7 +16,7 @@ use csi_sql::Fold;
 use sqlite::{Error, Row};
 use std::alloc::Global;
 
-/// One attachment that represents all attachments of a volume that the scan has met so far. If another
+/// One attachment that represents all attachments of its volume up to the last row of the scan. If another
 /// attachment can coexist with this one, it can coexist with all of them.
 #[derive(Drop)]
 pub struct LastAttachment {
@@ -77,7 +77,8 @@ fn covers(last: &Option<LastAttachment>, next: &LastAttachment) -> bool
     }
 }
 
-/// Finds the first attachment that cannot coexist with an earlier attachment of the same volume. The rows
+/// Finds the first attachment that cannot coexist with an earlier attachment of the same volume. An
+/// attachment that cannot be decoded coexists with no other, and a row without a number is skipped. The rows
 /// must be ordered by number, like the rows of `scan_places`.
 ///
 /// The fold keeps one attachment of the last volume: an attachment that writes, if the volume has one,

@@ -18,7 +18,8 @@ pub enum VolumeConstraint {
     /// The size in bytes is a positive multiple of 1 MiB.
     #[error("its bytes are not a positive multiple of 1048576")]
     Bytes,
-    /// `caps` encodes at least one capability. The capabilities are in order, and each is supported.
+    /// `caps` encodes at least one capability. The keys of the capabilities rise without duplicates, and each
+    /// is supported.
     #[error("its caps are not the bytes of supported capabilities in order")]
     Caps,
     /// `params` encodes the parameters and the mutable parameters, each of at most 4,096 bytes. In tables of
@@ -57,9 +58,9 @@ pub enum BrokenConstraint {
     /// A row of volumes breaks one of the constraints for volumes.
     #[error("volume {number}: {constraint}")]
     Volume {
-        /// The volume's number, as it is in the row.
+        /// The volume's number in the row, or 0 if the value is not an integer.
         number: i64,
-        /// The first constraint that the row breaks, in the order in which the constraints are tested.
+        /// The first constraint that the row breaks, in the order in which `csi_adoption` tests them.
         constraint: VolumeConstraint,
     },
     /// The sizes of a pool's volumes add up to more than the size of the pool.
@@ -71,11 +72,11 @@ pub enum BrokenConstraint {
     /// A row of attachments breaks one of the constraints for attachments.
     #[error("volume {number} at node {node}: {constraint}")]
     Attachment {
-        /// The volume's number, as it is in the row.
+        /// The volume's number in the row, or 0 if the value is not an integer.
         number: i64,
-        /// The id of the node, as it is in the row.
+        /// The id of the node in the row, or an empty text if the value is not a text in UTF-8.
         node: Text,
-        /// The first constraint that the row breaks, in the order in which the constraints are tested.
+        /// The first constraint that the row breaks, in the order in which `csi_adoption` tests them.
         constraint: AttachmentConstraint,
     },
     /// More volumes are attached to a node than the node can have.

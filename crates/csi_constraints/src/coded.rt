@@ -53,8 +53,8 @@ fn params_at(alloc: Global, row: &Row, at: usize) -> Result<Option<(Map, Map)>, 
     }
 }
 
-/// Tests that `caps` of a volume is the canonical bytes of at least one capability, and that the capabilities
-/// are in order and supported.
+/// Tests that `caps` of a volume is the canonical bytes of at least one capability, that the capability keys
+/// rise without duplicates, and that each is supported.
 #[derive(Clone, Copy)]
 pub struct HasCaps {
     /// The allocator of the decoded capabilities.
@@ -82,7 +82,7 @@ impl RowTrial for HasCaps {
 pub struct HasParams {
     /// The allocator of the decoded parameters.
     pub alloc: Global,
-    /// The number of the tables' format, as it is in the table `meta`.
+    /// The number of the tables' format, from the table `meta`.
     pub format: u32,
 }
 

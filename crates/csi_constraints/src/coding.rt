@@ -189,7 +189,8 @@ fn all_supported(keys: &[CapKey]) -> bool
     keys.iter().all(|key| supported(key))
 }
 
-/// Returns true if the list has at least one key, the keys are in order, and each key is supported.
+/// Returns true if the list has at least one key, the keys rise without duplicates, and each key is
+/// supported.
 pub(crate) fn are_keys(keys: &[CapKey]) -> bool
     ensures { result ≡ are_keys keys.now }
 {

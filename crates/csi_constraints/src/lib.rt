@@ -3,7 +3,7 @@
 //!
 //! A *scan* is a query with a fixed text. `scans.rt` has the five scans: the table `meta`, volumes by number,
 //! attachments by rowid, attachments by number, and attachments with the caps of their volumes.
-//! `csi_sql::each_row` passes the rows of the answer to a `csi_sql::Fold`, in order. `specs/Scans.antt`
+//! `csi_sql::each_row` passes the rows to a `csi_sql::Fold`, in the order of the query. `specs/Scans.antt`
 //! defines the rows of each scan, and `specs/facts/` has the facts that follow if each row passes a test.
 //!
 //! A *fold* is a value that takes rows one by one, such as a sum. Its relation `folds` relates the fold
@@ -16,8 +16,8 @@
 //! - [`FirstBroken`] finds the first row that breaks a constraint, with the number and the text that name the
 //!   row. The `Display` of [`BrokenConstraint`] is the message about the row.
 //! - [`FirstUnowned`] and [`FirstApart`] test the two constraints that depend on earlier rows.
-//!   [`FirstUnowned`] keeps the capabilities of the last volume (`Known`). [`FirstApart`] keeps one
-//!   attachment that represents all attachments of the last volume (`Apart`).
+//!   [`FirstUnowned`] keeps the capabilities of the last volume (`specs/Known.antt`). [`FirstApart`] keeps
+//!   one attachment that represents all attachments of the last volume (`specs/Apart.antt`).
 //!
 //! A *constraint* is a function in `specs/` from a row to a Bool. The constraints in `Kinds` are about the
 //! types of columns, in `Volumes` and `Attachments` about numbers and texts, and in `Coded` about encoded

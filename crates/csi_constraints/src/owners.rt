@@ -42,8 +42,9 @@ impl KnownCaps {
     }
 }
 
-/// Finds the first attachment whose volume does not exist or lacks the attachment's capability. The rows come
-/// from `scan_owners`.
+/// Finds the first attachment whose volume does not exist or lacks the attachment's capability. An attachment
+/// also breaks this constraint if one of the two cannot be decoded: its capability, or the capabilities of
+/// its volume. The rows come from `scan_owners`.
 ///
 /// The fold keeps the caps that were decoded last. So the caps of a volume are decoded once for consecutive
 /// attachments of the volume.
@@ -91,7 +92,7 @@ fn have_key(last: &Option<KnownCaps>, key: &CapKey) -> bool
     }
 }
 
-// Returns true if the volume of an attachment exists and has its capability.
+// Returns true if the volume of an attachment exists and has the attachment's capability.
 fn is_owned(alloc: Global, last: &mut Option<KnownCaps>, row: &Row) -> Result<bool, Error>
     ensures known { AreCached last.old → AreCached last.new }
     ensures exact { AreCached last.old → IfOk result (λ owned. owned ≡ is_owned row.now) }

@@ -26,7 +26,7 @@ fn is_above_last(last: Option<i64>, integer: i64) -> bool
 pub struct Rising {
     /// The column of the integers, counted from 0.
     pub column: usize,
-    /// The integer of the last row that passed, or `None` before the first row.
+    /// The integer of the last row that passed, or `None` if no row has passed yet. Initially `None`.
     pub last: Option<i64>,
     /// True if every row so far has passed. Initially true.
     pub good: bool,

@@ -12,7 +12,8 @@ ghost use Rattle.csi_constraints.specs.Scans.{IsInOrder, keyed_attachment, owner
 use csi_sql::{Fold, IdleConnection, each_row};
 use sqlite::{Alter, Error};
 
-/// Passes each row of the table `meta` to a fold. The columns are `k`, `format_no` and `next_number`.
+/// Passes each row of the table `meta` to a fold, in any order. The columns are `k`, `format_no` and
+/// `next_number`.
 ///
 /// # Errors
 ///

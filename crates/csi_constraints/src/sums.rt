@@ -16,8 +16,8 @@ use std::cmp::Ordering;
 pub enum Weight {
     /// Each row adds 1, so the sum is the number of rows.
     One,
-    /// Each row adds the integer in this column, counted from 0. A row without an integer in the column adds
-    /// nothing.
+    /// Each row adds the integer in this column, counted from 0. A row adds nothing if the value in the
+    /// column is negative or not an integer.
     Number(usize),
 }
 

@@ -13,7 +13,7 @@ use sqlite::Row;
 /// Tests that the number of a volume is at least 1 and below the next number.
 #[derive(Clone, Copy)]
 pub struct IsNumbered {
-    /// The next number, from the table `meta`.
+    /// The next number in the table `meta`. If this field is 0, no number passes the test.
     pub next: u64,
 }
 

@@ -40,9 +40,10 @@ pub fn went_on_at<S: Start>(config: &Config)
 /// executed once. The State at the end is also the same. This holds even if runs end in stops. No other
 /// client may change anything.
 ///
-/// The first run may be over files that hold no database yet. A run may end in any way that [`went_on`]
-/// covers. The calls of a run may fail with an internal error, and replies may be lost. The next run is over
-/// any contents that a crash may leave in the files.
+/// The first run may be over files that hold no database yet, and its first State must meet the invariant. A
+/// run may end in any way that [`went_on`] covers. The calls of a run may fail with an internal error, which
+/// does not count as a reply here, and replies may be lost. The next run is over any contents that a crash
+/// may leave in the files.
 pub fn lived(config: &Config)
     ensures { LivesOnce config.now }
 {
@@ -53,8 +54,8 @@ pub fn lived(config: &Config)
 /// runs end in stops. The number for the next volume never falls, and a volume never gets the number of a
 /// deleted volume. Only the mutable parameters of a volume change. So an id never names another volume.
 ///
-/// The first run may be over files that hold no database yet. Each later run is over any contents that a
-/// crash after the run before it may leave, as in [`lived`].
+/// The first run may be over files that hold no database yet, and its first State must meet the invariant.
+/// Each later run is over any contents that a crash after the run before it may leave, as in [`lived`].
 pub fn numbered(config: &Config)
     ensures { NumbersOnce config.now }
 {

@@ -166,7 +166,7 @@ fn begins_page(bytes: &[u8]) -> bool
     true
 }
 
-// Returns true if a stop during the write of the first page could leave these bytes.
+// Returns true if there are 2 bytes or more, and a stop during the write of the first page could leave them.
 fn is_torn(bytes: &[u8]) -> bool
     ensures { IsTrue result ↔ IsPart bytes.now }
 {
@@ -202,8 +202,8 @@ fn has_torn<D: Disk>(alloc: Global, file: &mut D, len: usize) -> io::Result<bool
     reads_torn(file, bytes.as_mut_slice())
 }
 
-// Returns true if a stop during the write of the first page could leave this database file, and the WAL is
-// empty.
+// Returns true if the WAL is empty, the database file has 2 bytes or more, and a stop during the write of the
+// first page could leave this file.
 fn holds_torn<D: Disk>(alloc: Global, pair: &mut Files<D>) -> io::Result<bool>
     requires log { IsTrue (D.Disk.is_usable pair.old.log) }
     requires db { IsTrue (D.Disk.is_usable pair.old.db) }

@@ -29,7 +29,7 @@ const BUSY: Error = Error::SqliteFailure(ErrorCode::DatabaseBusy);
 /// The contracts rest on two assumptions, like the contract of `sqlite_std_file::open`: the operating system
 /// gives the files at the path, and no other program writes to these files.
 pub struct FilesAt<'a, S> {
-    /// The operating system, which gives the files.
+    /// The operating system, which opens the files and gives the random seed.
     pub rt: HostRuntime,
     /// The path of the database file. The WAL is next to this file, with `-wal` at the end of its name.
     /// A path that is `:memory:` or begins with `file:` is refused, since SQLite would not take it as the

@@ -194,9 +194,9 @@ fn bytes_of(change: &Change) -> usize
 }
 
 /// Tables, and memory that is held for the next opening of their file. A change that adds rows or sets
-/// parameters needs more of this memory, and reserves it first. If the memory is refused, the change is not
-/// made and fails with `NoMemory`, but the tables do not go down. A change that removes rows reserves no
-/// memory.
+/// parameters needs more of this memory, and reserves it first. If the memory is refused, or the observer has
+/// no room, the change is not made and fails with `NoMemory`, but the tables do not go down. A change that
+/// removes rows reserves no memory.
 ///
 /// While tables are copied into memory, reading a page of volumes fails with `NoMemory` if the observer has
 /// no room.
@@ -274,8 +274,8 @@ impl<'a, S: Alter, O: Observer> Reserved<'a, S, O> {
             && !self.observer.has_room(self.reserve.wanted)
     }
 
-    // Returns true if there is room for a next opening of `opening` bytes. The observer is asked only after
-    // the opening has grown by `STEP_BYTES`.
+    // Returns true if there is room for a next opening of `opening` bytes. The observer is asked at first,
+    // then after the opening has grown by `STEP_BYTES`, and each time if its last answer was no.
     fn has_room(&mut self, opening: usize) -> bool
         ensures unchanged { (self.new.tables ≡ self.old.tables) × (self.new.reserve ≡ self.old.reserve) }
     {
@@ -289,8 +289,8 @@ impl<'a, S: Alter, O: Observer> Reserved<'a, S, O> {
         has_room
     }
 
-    // Holds memory for the rows that a change adds. A change that only removes rows succeeds even if less
-    // memory is held than the next opening takes.
+    // Holds memory for the rows that a change adds, unless the tables are down. A change that only removes
+    // rows succeeds even if less memory is held than the next opening takes.
     fn reserve_for(&mut self, change: &Change) -> Result<(), StoreFault>
         ensures unchanged { self.new.tables ≡ self.old.tables }
         ensures kept { OnOk result (0 < change_bytes change.now → is_down S.Store self.old.tables ≡ false

@@ -12,7 +12,7 @@ use sqlite_disk::Disk;
 use std::alloc::Global;
 
 /// The observer of a run. The run reports to it each step before the first call. After the last call, the run
-/// reports the first error of the database.
+/// reports the first error of the database, if there was one.
 pub trait Observer {
     /// Called after new tables were made, in a database that had no table.
     fn made(&self);
@@ -30,7 +30,7 @@ pub trait Observer {
     /// Returns true if the process has memory for its calls and for the next opening of the tables, which
     /// takes `opening` bytes. A run calls this function before each page of volumes that it copies into
     /// memory, and as the tables grow. If the function returns false, the volumes are not copied, and a
-    /// change that adds rows fails as if memory were refused.
+    /// change that adds rows or sets parameters fails as if memory were refused.
     ///
     /// An implementation must count limits at which the process is killed, such as the memory limit of a
     /// Linux control group. It need not count limits at which an allocation fails.
@@ -42,13 +42,13 @@ pub trait Observer {
 pub struct RunOptions {
     /// If true, a database without tables is refused. If false, it gets new tables.
     pub is_existing: bool,
-    /// If true, reads are answered from the file. If false, the volumes are copied into memory if it has room
-    /// for them, and reads are answered from the copy.
+    /// If true, reads are answered from the file. If false, the volumes are copied into memory if memory has
+    /// room for them, and reads are then answered from the copy.
     pub is_low_memory: bool,
     /// The memory in bytes that an opening of the tables takes, since an opening reads each table whole.
     /// While reads are answered from the file, this memory is held for the next opening, as far as the system
-    /// gives it. A call that adds rows holds memory for them first. The call fails if this memory is refused
-    /// or the observer has no room.
+    /// gives it. A call that adds rows or sets parameters first holds memory for the bytes that it adds. The
+    /// call fails if this memory is refused or the observer has no room.
     pub reserve: usize,
 }
 
@@ -71,10 +71,11 @@ pub struct Run<'a, O> {
 pub struct RunReport {
     /// The reason why the run ended, as the server reports it.
     pub end: RunEnd,
-    /// The number of calls that the store refused, at most 2^64 - 1.
+    /// The number of calls that the store refused, at most 2^64 - 1. This includes calls that were refused
+    /// because the store was down.
     pub refusals: u64,
-    /// True if the store was down at the end. The store then refused each call after the call that brought it
-    /// down.
+    /// True if the store was down at the end: a change had failed. Each later call that read or changed the
+    /// store was refused.
     pub is_down: bool,
     /// True if reads were answered from a copy of the volumes in memory, false if the file answered them.
     pub is_copied: bool,

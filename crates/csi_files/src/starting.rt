@@ -64,24 +64,24 @@ impl<O: Observer> Run<'_, O> {
     /// Serves the volume machine over a database file and its WAL. Makes a database if the files hold none
     /// yet, opens the files, adopts their tables, serves calls, and closes the files.
     ///
-    /// The run depends only on the State that the files have before it (`HasState`). The table of ends of
-    /// `csi_server::serve` shows which bytes are read and written, how the run ends and which calls it
+    /// The run depends only on the State that the files have before it (`HasState`). The clause `serves` of
+    /// `csi_server::serve` states which bytes are read and written, how the run ends and which calls it
     /// counts. After the run the files have the State after these calls. A first run starts from the first
     /// State, also if a stop interrupted the making of the database (`MayStart`). Files without tables get
     /// new tables and the first State, unless the options require existing tables. If memory has no room for
     /// a copy of the volumes, reads are answered from the file.
     ///
     /// These promises hold while the disks return the bytes that were written to them (`AreClean`). Over any
-    /// disk, each call that was read has its reply, in order (`writes`), and after `Ok` the store has refused
-    /// no call.
+    /// disk, one reply is written for each call that was read, in the order of the calls, until a write fails
+    /// (`writes`). After `Ok` the store has refused no call.
     ///
     /// # Errors
     ///
     /// `NotOpened` means that the files were not opened, and `Refused` that their database was refused. No
-    /// call was read and no reply written, and the next run starts as this run would have. `Left` means that
-    /// the store refused a call, and `NotClosed` that copying the WAL into the database file failed. After
-    /// `Left` or `NotClosed`, calls were served as after `Ok`. The files have the State after the calls, or
-    /// the State that a refused call would have made.
+    /// call was read and no reply written, and the next run starts from the State from which this run would
+    /// have started. `Left` means that the store refused a call, and `NotClosed` that copying the WAL into
+    /// the database file failed. After `Left` or `NotClosed`, calls were served as after `Ok`. The files have
+    /// the State after the calls, or the State that a refused call would have made.
     ///
     /// # Not promised
     ///
@@ -90,9 +90,9 @@ impl<O: Observer> Run<'_, O> {
     /// even if memory allows it.
     ///
     /// The contract does not cover a stop while this program repairs a file in which an earlier release was
-    /// stopped. It also does not exclude that such a file is refused because of its WAL. Rows of tests show
-    /// both. If an opening fails while it reads the schema, the clauses speak of the trees that the store
-    /// reads, and not of bytes.
+    /// stopped. It also does not exclude that such a file is refused because of its WAL. Tests cover such a
+    /// stop and the opening of such a file. If an opening fails while it reads the schema, the clauses speak
+    /// of the trees that the store reads, and not of bytes.
     pub fn create_and_serve<D: Disk + Drop, R: Read, W: Write>(
         &self,
         files: Files<D>,

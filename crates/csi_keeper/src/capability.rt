@@ -205,7 +205,7 @@ fn key_with(alloc: Global, access: &Access, mode: u8) -> Result<Option<CapKey>, 
     Ok(Some(CapKey { kind, mode }))
 }
 
-/// Returns the key of a capability, or `None` if it has no access type or its mode is unknown.
+/// Returns the key of a capability, or `None` if it has no access type or its mode is missing or unknown.
 ///
 /// # Errors
 ///

@@ -25,7 +25,7 @@ pub fn copy_key(alloc: Global, key: &CapKey) -> Result<CapKey, AllocError>
     })
 }
 
-/// Copies a list of capability keys in order, with memory of `alloc`.
+/// Copies a list of capability keys in the same order, with memory of `alloc`.
 ///
 /// # Errors
 ///

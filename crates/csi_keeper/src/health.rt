@@ -1,4 +1,4 @@
-//! Keeps track of whether a keeper is down, and counts the calls that it refused.
+//! Counts the calls that a keeper refused, and records if the keeper is down.
 
 ghost use Rattle.std.specs.Prelude.{◌≡◌, ◌≢◌, ◌+◌, ◌-◌, ◌^◌, min, true, false, Err, OnOk, OnErr};
 ghost use Rattle.csi_keeper.specs.Keeper.{count_after};
@@ -7,7 +7,7 @@ ghost use Rattle.csi_keeper.specs.declared.change.StoreFault.TheVariants.{Down};
 
 use crate::change::StoreFault;
 
-/// The state of a keeper's service: whether the keeper is down, and how many calls it refused.
+/// The state of a keeper's service: if the keeper is down, and how many calls it refused.
 ///
 /// A keeper calls `start_call` at the start of each call. At the end of the call it passes the result through
 /// `finish_call` for a read, or `finish_change` for a change.

@@ -151,8 +151,8 @@ pub trait Keeper {
     /// Makes a change. The variants of [`Change`] state when the State allows it. If the State does not allow
     /// the change, the keeper promises nothing about its State from then on.
     ///
-    /// In any case, an added volume must have a number below 2^62, at most 2^62 bytes, and capabilities in
-    /// order without duplicates. New mutable parameters must have at most 4,096 bytes.
+    /// In any case, an added volume must have a number below 2^62, at most 2^62 bytes, and capability keys in
+    /// rising order without duplicates. New mutable parameters must have at most 4,096 bytes.
     ///
     /// - After `Ok` the change is made, and the keeper is not down. A stop leaves the State with the change.
     /// - After `NoMemory` or `Refused` the State is unchanged. But a stop may leave the State with the

@@ -7,12 +7,12 @@
 //! sums over a pool after a change, the orders of the maps, sequences of reads, and supported keys.
 //!
 //! `csi_machine` answers requests with the trait [`Keeper`] only. The keepers are in crates above:
-//! `csi_memory` keeps volumes in memory, `csi_tables` in SQLite, and `csi_through` in two keepers. This crate
-//! also has the parts that keepers share:
+//! `csi_memory` keeps volumes in memory, `csi_tables` in SQLite, and `csi_through` both in memory and in a
+//! change store. This crate also has the parts that keepers share:
 //!
 //! - [`Totals`]: the running totals of pools
 //! - [`copy_volume`], [`copy_attachment`]: copies of volumes and attachments
-//! - [`Health`]: the count of refusals, and whether a keeper is down
+//! - [`Health`]: the count of refusals, and if a keeper is down
 //! - [`listed_at`], [`listed_each`], [`PageFold`]: the entries of a listing, and folds over them
 //!
 //! ```rust

@@ -7,9 +7,11 @@ ghost use Rattle.csi_keeper.specs.declared.listed.Listed.{Listed as Report};
 use crate::listed::{Listed, ListedRow};
 use std::alloc::AllocError;
 
-/// A fold over the entries of a listing, which it takes one by one in order.
+/// A fold over the entries of a listing. It takes the entries one by one, in rising order of the volumes'
+/// numbers.
 pub trait PageFold {
-    /// The relation between a fold, the entries that it takes in order, and the fold after it has taken them.
+    /// The relation between a fold, the entries that it takes one after the other, and the fold after it has
+    /// taken them.
     ghost folds: { Self → List Report → Self → Type 0 };
 
     /// The relation between the fold before a call and the fold after it. It holds even if the call fails.

@@ -16,7 +16,8 @@ pub struct Volume {
     pub bytes: u64,
     /// The name of the pool that the volume takes its bytes from.
     pub pool: Text,
-    /// The keys of the capabilities that the volume was created for, in order, without duplicates.
+    /// The keys of the capabilities that the volume was created for, in rising order ([`CapKey`]), without
+    /// duplicates.
     pub caps: Items<CapKey>,
     /// The parameters that the volume was created with (`CreateVolumeRequest.parameters`).
     pub params: Map,

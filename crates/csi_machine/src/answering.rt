@@ -21,8 +21,9 @@ use csi_keeper::{Keeper, StoreFault};
 use csi_types::{CreateVolume, Map, Request};
 use std::alloc::Global;
 
-// Appends the body of a plan's response, and then makes the plan's change. If memory for the body is refused,
-// the State is unchanged. If the keeper returns a fault, the body is removed from the reply.
+// Appends the body of a plan's response, and then makes the plan's change. If the request or memory for the
+// body is refused, nothing is appended and the State is unchanged. If the keeper returns a fault, the body is
+// removed from the reply.
 #[inline(always)]
 fn finish<K: Keeper, P: Outcome>(
     alloc: Global,
@@ -94,9 +95,9 @@ fn append_creation<K: Keeper>(
 ///
 /// # Errors
 ///
-/// Returns the fault of the keeper, or [`StoreFault::NoMemory`] if memory for the body is refused. The State
-/// is unchanged, but a stop may then leave the State with the change. `out` is unchanged after an error and
-/// after a refusal.
+/// Returns the fault of the keeper, or [`StoreFault::NoMemory`] if memory is refused. The State is unchanged,
+/// but a stop may then leave the State with the change. `out` is unchanged after an error and after a
+/// refusal.
 ///
 /// # Not promised
 ///
@@ -131,9 +132,8 @@ pub fn append_answer<K: Keeper>(
 ///
 /// # Errors
 ///
-/// Returns the fault of the keeper, or [`StoreFault::NoMemory`] if memory for the body is refused. The State
-/// is unchanged, but a stop may then leave the State with the change. `out` is empty after an error and after
-/// a refusal.
+/// Returns the fault of the keeper, or [`StoreFault::NoMemory`] if memory is refused. The State is unchanged,
+/// but a stop may then leave the State with the change. `out` is empty after an error and after a refusal.
 pub fn answer<K: Keeper>(
     alloc: Global,
     config: &Config,

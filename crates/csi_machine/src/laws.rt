@@ -44,7 +44,7 @@ pub fn ids()
 {}
 
 /// If the State before a request meets the invariant, and the request passes the checks of its arguments, the
-/// State after the request meets the invariant. This holds whether or not the request is answered.
+/// State after the request meets the invariant. This also holds if the request is refused.
 #[inline(always)]
 pub fn kept(config: &Config)
     ensures { (s : State) (r : Request) → IsInvariant config.now s → checked r ≡ None
@@ -55,7 +55,8 @@ pub fn kept(config: &Config)
 
 /// No two volumes ever get the same number. A request never lowers the number for the next volume, and never
 /// gives a volume the number of a deleted volume. If a volume exists before and after a request, only its
-/// mutable parameters may change. This holds whether or not the request is answered.
+/// mutable parameters may change. The State before the request must meet the invariant, and the request must
+/// pass the checks of its arguments. The law also holds if the request is refused.
 #[inline(always)]
 pub fn numbers(config: &Config)
     ensures { (s : State) (r : Request) → IsInvariant config.now s → checked r ≡ None
@@ -104,11 +105,12 @@ pub fn walk(config: &Config)
 /// The State must meet the invariant, and the size is the maximum in the answer, which must be above 0. Then
 /// a pool of the configuration can be chosen for this size and for the topology of the GetCapacity request.
 /// So a CreateVolume for this size, with this topology among its requisite or preferred topologies, is
-/// answered with a volume of this size in a pool of the configuration. The volume then exists.
+/// answered with a volume of this size in a pool of the configuration. The volume then exists. If the
+/// GetCapacity request has no topology, this holds for a CreateVolume without requisite topologies.
 ///
-/// The CreateVolume may have any range that results in this size, such as a range with this size as both
-/// limits. Its name must be new. The greatest number of volumes must not be reached, and the volume numbers
-/// must not be used up.
+/// The CreateVolume may have any range that results in this size, such as a range whose required size and
+/// limit are this size. Its name must be new. The greatest number of volumes must not be reached, and the
+/// volume numbers must not be used up.
 #[inline(always)]
 pub fn room(config: &Config)
     ensures chosen { (s : State) (g : GetCapacity) (available n : ℕ) → IsInvariant config.now s

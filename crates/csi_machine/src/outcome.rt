@@ -18,8 +18,8 @@ pub(crate) trait Outcome: Drop {
     /// The plan as a value, for contracts.
     ghost plan: { Self → AnyPlan };
 
-    /// Appends the body of the plan's response. If the body is too large for a reply, the plan becomes a
-    /// refusal and makes no change.
+    /// Appends the body of the plan's response. Returns the reason if the plan is a refusal or the body is
+    /// too large for a reply. Nothing is then appended, and the caller must not make the change.
     fn append(&self, out: &mut Vec<u8>) -> Result<Verdict, AllocError>
         ensures value { IfOk result (λ v. limited (plan self.now) ≡ by_verdict (plan self.now) v) }
         ensures body { OnOk result (out.new.items

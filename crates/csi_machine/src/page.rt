@@ -59,7 +59,8 @@ fn put_first(
     Ok(())
 }
 
-// Appends the entry of a volume. Looks up or encodes the placement of its pool.
+// Appends the entry of a volume. Encodes the placement of the volume's pool if the page has no volume of this
+// pool yet.
 #[inline(always)]
 fn put_row(
     alloc: Global,

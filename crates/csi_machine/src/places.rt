@@ -1,5 +1,5 @@
-//! The placement of each pool: the encoded context and topology of its volumes. A listing encodes the
-//! placement of a pool when it meets the first volume of the pool.
+//! The placement of each pool: the encoded context and topology of its volumes. A page of a listing encodes
+//! the placement of a pool at the first volume of the pool on the page.
 
 ghost use Rattle.std.specs.Prelude.{◌≡◌, ◌↔◌, IfOk, IfSome, IsTrue, find, option_copied};
 ghost use Rattle.csi_types.specs.Maps.{same_text};
@@ -44,7 +44,7 @@ fn is_of(place: &PoolPlacement, pool: &str) -> bool
     place.pool.as_str() == pool
 }
 
-/// Returns the placement of a pool, or `None` if the listing has met no volume of the pool yet.
+/// Returns the placement of a pool, or `None` if the page has no volume of the pool yet.
 #[inline(always)]
 pub(crate) fn placement_named<'a>(
     places: &'a [PoolPlacement],

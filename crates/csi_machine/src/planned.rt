@@ -22,7 +22,8 @@ pub(crate) trait Planned {
     /// Holds if the request has a volume id that no volume can have. Such a request needs no State.
     ghost names_none: { Self → Type 0 };
 
-    /// Plans the request by reads of the keeper alone. A request that needs no State makes no read.
+    /// Plans the request by reads of the keeper alone. For a request that needs no State, the keeper is not
+    /// called.
     fn plan<K: Keeper>(&self, alloc: Global, config: &Config, keeper: &mut K) -> Planning
         ensures bounded { IfOk result (λ p. IfSome p.change IsBounded) }
         ensures asks_nothing { names_none self.now

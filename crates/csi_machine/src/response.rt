@@ -17,7 +17,7 @@ use std::marker::Model;
 enum ResponseForm {
     // The whole response, in allocated memory.
     Made(Boxed<Response>),
-    // The response has no field, so nothing is kept.
+    // Each of these three responses has no field, so nothing is kept.
     Delete,
     Unpublish,
     Modify,

@@ -94,7 +94,7 @@ fn validate_volume(alloc: Global, request: &Validate, volume: &Volume) -> Result
 ///
 /// The answer confirms the capabilities and the parameters of the request if both of these hold:
 ///
-/// - the volume has the key of each capability
+/// - the volume has the key of each capability, or the wider key (`csi_keeper::wider_key`)
 /// - the parameters of the request are empty or equal the parameters of the volume
 ///
 /// The request is refused if no volume has the id. The plan changes nothing. If the id does not have the form

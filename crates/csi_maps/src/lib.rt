@@ -3,7 +3,8 @@
 //! `rows.rt` has the map of volumes by number. Its values are the volumes of `stored.rt`, with the parameters
 //! in the maps of `compact.rt`. `attachments.rt` has the attachments by number and node, and `nodes.rt` the
 //! index of nodes. `names.rt` has the index of names, which uses the hash of `hash.rt`. The indexes agree
-//! with the rows, also after memory was refused. `walk.rt` visits the attachments of a page of volumes.
+//! with the rows, also after an allocation was refused. `walk.rt` visits the attachments of a page of
+//! volumes.
 //!
 //! `specs/Stored.antt` defines which volume a row is. `specs/Rows.antt` defines which finite maps of the
 //! State the rows represent, and the contents of the index of nodes. `specs/Naming.antt` defines which volume

@@ -1,8 +1,8 @@
 //! The index of names in memory, which finds a volume by its name.
 //!
 //! The index does not copy each name. It looks a name up by its hash. The volume under this hash has the
-//! name, or another name with the same hash. If several names have the same hash, the name that was added
-//! first is found by the hash, and the names that were added later are found by their texts.
+//! name, or another name with the same hash. If several names have the same hash, at most one of them is
+//! found by the hash, and the others are found by their texts.
 
 ghost use Rattle.std.specs.Prelude.{◌≡◌, ◌≢◌, ◌↔◌, [], None, Some, IfOk, IsTrue, OnOk, OnErr};
 ghost use Rattle.std.specs.BTreeMap.{is_at};
@@ -21,12 +21,12 @@ use std::alloc::{AllocError, Global};
 use std::collections::BTreeMap;
 
 /// The index of names, which finds a volume by its name. It maps the hashes of names to volume numbers, and
-/// contains a name itself only if another name has the same hash.
+/// contains a name itself only if another name had the same hash when the name was added.
 #[derive(Drop)]
 pub struct Names {
     // The number of a volume, by the hash of its name. Most names have a hash that no other name has.
     by_hash: BTreeMap<u64, u64>,
-    // The number of each volume whose name has the same hash as an earlier name, by its name.
+    // The number of each volume, by its name, if the hash of the name was taken when the name was added.
     by_text: BTreeMap<Text, u64>,
 }
 

@@ -162,7 +162,7 @@ pub fn volumes_after(
 }
 
 /// Returns a list of node ids, in byte order, for each of the first `count` volumes whose numbers are greater
-/// than `after`.
+/// than `after`. The lists are in rising order of the numbers.
 ///
 /// # Errors
 ///

@@ -20,7 +20,8 @@ pub(crate) struct Walk<'a> {
     // The next attachment, and the iterator over the attachments after it.
     next: Option<(&'a (u64, Text), &'a Attachment)>,
     rest: Range<'a, (u64, Text), Attachment>,
-    // The last number that was visited. The walk has not yet passed the attachments of greater numbers.
+    // The greatest number that was visited, or the start `after` if no greater number was visited. The walk
+    // has not yet passed the attachments of greater numbers.
     passed: u64,
     /// The nodes of the volume number that was visited last, in byte order.
     pub(crate) nodes: Items<Text>,

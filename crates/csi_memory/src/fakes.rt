@@ -1,4 +1,4 @@
-//! Keepers for tests, which fail at a chosen call.
+//! A keeper for tests, which fails at a chosen call.
 
 ghost use Rattle.std.specs.Prelude.{◌≡◌, ◌≢◌, ◌≤◌, ◌^◌, ◌↔◌, false, Some, Err, IfOk, IsTrue, is_some};
 ghost use Rattle.std.specs.FinMap.{get};
@@ -52,8 +52,8 @@ impl Fuse {
 /// A keeper in memory that refuses one call, which is chosen by its number. Calls are counted from 0.
 /// [`refusals`](Keeper::refusals) and [`is_down`](FusedMem::is_down) are not counted.
 ///
-/// If the refused call is a read, later calls succeed. If the refused call is [`apply`](Keeper::apply), the
-/// change is not made, and each later call fails with `Down`. The volumes end with the process, so a stop
+/// If the refused call is a read, no later call is refused. If the refused call is [`apply`](Keeper::apply),
+/// the change is not made, and each later call fails with `Down`. The volumes end with the process, so a stop
 /// leaves nothing.
 #[derive(Drop)]
 pub struct FusedMem {

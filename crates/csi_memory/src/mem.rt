@@ -1,8 +1,7 @@
 //! A keeper in memory.
 //!
-//! The rows are in ordered maps and not in vectors, so searches by number or name and removals take
-//! logarithmic time. A call over 100,000 volumes, with removed volumes between them, costs little more than a
-//! call over a few.
+//! The rows are in ordered maps and not in vectors: searches by number or name and removals take logarithmic
+//! time. So a search among the greatest number of volumes costs little more than a search among a few.
 
 ghost use Rattle.std.specs.Prelude.{◌≤◌, ◌<◌, ◌^◌, IfOk, OnOk, OnErr};
 ghost use Rattle.csi_keeper.specs.State.{State, Allows, changed, first_state};
@@ -24,8 +23,8 @@ use csi_types::{Items, Map, Text, copy_map, copy_text};
 use std::alloc::{AllocError, Global};
 use std::collections::{BTreeMap, BTreeSet};
 
-/// A keeper in memory. It is never down. A call fails only if memory is refused. The State is then unchanged,
-/// and later calls may succeed. The volumes end with the process, so a stop leaves nothing.
+/// A keeper in memory. It is never down. A call fails only if an allocation is refused. The State is then
+/// unchanged, and later calls may succeed. The volumes end with the process, so a stop leaves nothing.
 ///
 /// Each volume is stored once, and the values that calls return are copies. For n volumes, m attachments, p
 /// pools and d nodes with attachments, calls take this time:

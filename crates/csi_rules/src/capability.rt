@@ -9,8 +9,8 @@ use std::alloc::{AllocError, Global};
 use std::collections::BTreeSet;
 
 // The greatest number of keys that are compared one by one. If there are more keys, they are put into a set
-// first. The keys of a volume are in order by the invariant. But a `requires` cannot name the invariant, so
-// each comparison builds the set.
+// first. The invariant says that the keys of a volume are sorted, but a `requires` cannot name the invariant.
+// So each comparison builds the set.
 const FEW_KEYS: usize = 4;
 
 #[tactic(auto, using(crate::specs::facts::Capability::keys_more, crate::specs::facts::Capability::keys_same, crate::specs::facts::Capability::keys_none))]

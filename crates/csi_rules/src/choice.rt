@@ -150,13 +150,12 @@ fn pool_by<'a>(
     pool_requisite(alloc, rooms, wanted.requisite.as_slice(), size)
 }
 
-/// Chooses the pool of a new volume of `size` bytes. The preferred topologies of the request are tried in
-/// order, and then the requisite topologies in order. For each topology, the pools are tried in the order of
-/// the configuration. The first pool that serves the topology and has room is chosen. Returns `None` if there
-/// is no such pool.
+/// Chooses the pool of a new volume of `size` bytes. The preferred topologies are tried first and then the
+/// requisite topologies, both in the order of the request. For each topology, the pools are tried in the
+/// order of the configuration. The first pool that serves the topology and has room is chosen.
 ///
 /// If the request has no requisite topology, and no pool is found for a preferred topology, the first pool of
-/// the configuration that has room is chosen.
+/// the configuration that has room is chosen. Returns `None` if no pool is found in this way.
 pub fn choose<'a>(
     alloc: Global,
     rooms: &[Room<'a>],

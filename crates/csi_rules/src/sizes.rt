@@ -1,4 +1,4 @@
-//! Chooses the size of a new volume.
+//! Chooses the size of a new volume, and compares the size of an existing volume with a requested range.
 
 ghost use Rattle.std.specs.Prelude.{◌≡◌, ◌<◌, ◌≤◌, ◌^◌};
 ghost use Rattle.csi_rules.specs.Size.{whole, rounded_down, requested_bytes, size_by, size, has_size};

@@ -51,8 +51,9 @@ pub fn stop_leaves_state<C, S: Service<C>>(config: &C)
 {}
 
 /// Each reply in a run of any service is valid in the envelope. Its status is a status code. If the status is
-/// 0, the reply has a body and no text. If the status is not 0, the reply has a text and no body. This
-/// includes the replies to calls that are refused for memory or by the store.
+/// 0, the text is empty, and the body is the response, which may have no bytes. If the status is not 0, the
+/// body is empty, and the text is the reason. This includes the replies to calls that are refused for memory
+/// or by the store.
 pub fn formed<C, S: Service<C>>(config: &C)
     ensures { (old new : S) (s : S.State) (events : List Event)
         → Runs (S.machine config.now) (S.model config.now old) (S.model config.now new) s events
@@ -131,7 +132,8 @@ pub fn pending<K: Keeper>(config: &Config)
 {}
 
 /// A call with a known path, a readable message and valid arguments gets the machine's answer to its request.
-/// Any other call changes nothing, and its reply does not depend on the State. Each valid request has a call.
+/// Any other call changes nothing, and its reply does not depend on the State. Each request that can be
+/// encoded and passes the checks has a call.
 pub fn asking()
     ensures exact { (call : CallBytes) (r : Request) → (asked call ≡ Some r) ↔ Asks call r }
     ensures answered { (config : AnyConfig) (s : MachineState) (call : CallBytes) (r : Request)
@@ -146,9 +148,11 @@ pub fn asking()
 }
 
 /// The calls of a session are tries of the requests in the calls. The State after the calls is the State
-/// after the tries, and the replies that clients hear are the answers to the tries. The States that a stop
-/// may leave ([`pending`]) are the same for both. If a stop before a run could leave only the State at the
-/// start, a stop after the run leaves a State that the tries leave. This holds over any keeper.
+/// after the tries, and the replies that the client hears to its requests are the answers to the tries.
+/// Refusals for memory, by the store or because the store is down are not among these replies. The States
+/// that a stop may leave ([`pending`]) are the same for both. If a stop before a run could leave only the
+/// State at the start, a stop after the run leaves only States that a stop after the tries may leave. This
+/// holds over any keeper.
 pub fn tries<K: Keeper>(config: &Config)
     ensures after { (s : MachineState) (session : List Exchange)
         → state_after (volumes config.now) s (events_of session)
@@ -167,11 +171,12 @@ pub fn tries<K: Keeper>(config: &Config)
 /// If a client repeats each of its requests until it hears the reply, each request is executed once (CSI
 /// specification, 'Timeouts').
 ///
-/// The first State meets the invariant. A call may be refused for memory or by the store, a reply may be
-/// lost, and a stop may end the session between any two calls and leave a State of [`pending`]. At any time
-/// other clients may make calls that change nothing, such as Probe, ListVolumes and GetCapacity. They may
-/// also make calls that contain no request or are refused for their arguments. The replies that the client
-/// hears, and the State at the end, are the same as if each request were executed once.
+/// The first State meets the invariant. A call may be refused for memory, by the store or because the store
+/// is down; the client then repeats the request. A reply may be lost, and a stop may end the session between
+/// any two calls and leave a State of [`pending`]. At any time other clients may make calls that change
+/// nothing, such as Probe, ListVolumes and GetCapacity. They may also make calls that contain no request or
+/// are refused for their arguments. The other replies that the client hears, and the State at the end, are
+/// the same as if each request were executed once.
 ///
 /// # Not promised
 ///
@@ -180,7 +185,7 @@ pub fn tries<K: Keeper>(config: &Config)
 /// new connection starts from the State that the stop left.
 ///
 /// Contracts are about calls that return. A process that ends inside a call leaves the same files as a run
-/// whose disk fails from that moment on. Rows of `test_tables` about stops show this.
+/// whose disk fails from that moment on. Cases of `test_tables` about stops show this.
 pub fn retry(config: &Config)
     ensures { (s t : MachineState) (requests : List Request) (sessions : List (List Exchange))
         (heard : List ReplyBytes) → IsInvariant config.now s

@@ -6,11 +6,11 @@
 //! and `specs/Serving.antt` the bytes that are read and written for each end of a run.
 //!
 //! A service leaves room for the reply's head in a buffer and writes the body after it. The buffer is kept
-//! from call to call, and a reply goes out as one write. `message.rt` decodes and checks the message of a
-//! call. [`serve_identity`] runs a service without a state. [`serve`] runs a keeper: each keeper is a service
-//! (`volumes.rt`), which answers a request with `csi_machine::append_answer`. `specs/Requests.antt` defines
-//! the replies of a machine over requests; each machine adds only its step for a request. [`laws`] states
-//! properties of runs, and of calls that are made again.
+//! from call to call, and a reply with a body is passed to the writer in one piece. `message.rt` decodes and
+//! checks the message of a call. [`serve_identity`] runs a service without a state. [`serve`] runs a keeper:
+//! each keeper is a service (`volumes.rt`), which answers a request with `csi_machine::append_answer`.
+//! `specs/Requests.antt` defines the replies of a machine over requests; each machine adds only its step for
+//! a request. [`laws`] states properties of runs, and of calls that are made again.
 //!
 //! ```rust
 //! let mut keeper = MemKeeper::new(alloc, 1)?;

@@ -22,8 +22,11 @@ const PIECE_BYTES: usize = 4096;
 // The outcome of one piece of the input. A piece is the bytes of one read.
 #[derive(Clone, Copy)]
 pub(crate) enum PieceOutcome {
+    // All bytes of the piece were taken, and each call that became complete was answered.
     Fed,
+    // A frame is malformed. The calls before it were answered.
     Faulty(FrameFault),
+    // Writing or flushing a reply failed.
     Cut,
 }
 
@@ -95,7 +98,7 @@ fn answer_piece<C, S: Service<C>, W: Write>(
 /// Some readers and writers, such as sockets, do not report their bytes, so no clause knows them. The body
 /// treats all readers and writers alike, and tests of `csid` as a process compare its output.
 ///
-/// Rows of `test_bytes` show that a reply is flushed before the next frame is looked at and that no read is
+/// Cases of `test_bytes` show that a reply is flushed before the next frame is looked at and that no read is
 /// longer than 4,096 bytes. They also show that nothing is read after a fault or a failed write, and that a
 /// failed read, write or flush is not tried again.
 pub fn run_service<C, S: Service<C>, R: Read, W: Write>(

@@ -113,7 +113,7 @@ impl<K: Keeper> Service<Config> for K {
 /// # Not promised
 ///
 /// Between a fault and its reply, the clauses allow one more read within these 4,096 bytes. Such a read would
-/// wait if the peer sends nothing and keeps the connection open. Rows of `test_bytes` show that nothing is
+/// wait if the peer sends nothing and keeps the connection open. Cases of `test_bytes` show that nothing is
 /// read after a fault.
 pub fn serve<K: Keeper, R: Read, W: Write>(
     alloc: Global,

@@ -11,7 +11,7 @@ ghost use Rattle.csi_sql.specs.Folding.{FailsForMemory, FoldsOver, RefusesRows};
 use crate::idle_connection::IdleConnection;
 use sqlite::{Alter, Error, ErrorCode, Row};
 
-/// A value that is computed from rows, which it takes one by one, in order.
+/// A value that is computed from rows. It takes the rows one by one, in the order of the query.
 pub trait Fold {
     /// Relates a fold, the rows that it takes, and the fold after these rows.
     ghost folds: { Self → List Values → Self → Type 0 };
@@ -34,7 +34,7 @@ pub trait Fold {
     ghost starts: { (fold : Self) → folds fold [] fold };
 }
 
-/// Runs a query and passes each row of its answer to the fold, in order. No row is kept.
+/// Runs a query and passes each row of its answer to the fold, in the order of the query. No row is kept.
 ///
 /// After an error the fold may have taken some of the rows.
 ///

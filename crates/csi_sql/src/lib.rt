@@ -9,14 +9,15 @@
 //! - [`make_tables`] makes the tables and the first row of `meta` in one transaction. [`is_our_schema`]
 //!   compares a schema with the schema of the tables, part by part (`specs/Ours.antt`). It compares the
 //!   meanings of the CREATE statements, and not their texts.
-//! - [`IdleConnection`] is a connection on which no transaction is open. All functions below take one.
+//! - [`IdleConnection`] is a connection on which no transaction is open. The functions of [`changes`] and
+//!   [`reads`], and [`each_row`], take one.
 //! - [`changes`] has one transaction for each change. After `Ok` the change is made and committed; after an
 //!   error the tables are unchanged. A stop leaves tables that it could also have left before the change, or
 //!   the tables with the change.
 //! - [`reads`] has one transaction for each read, which is rolled back: a read returns rows, changes nothing,
 //!   and adds nothing to what a stop may leave. [`values`] decodes the cells of a row as numbers, flags,
 //!   texts and bytes.
-//! - [`each_row`] passes the rows of a query to a [`Fold`], in order, and keeps no row.
+//! - [`each_row`] passes the rows of a query to a [`Fold`], in the order of the query, and keeps no row.
 //! - [`statements`] has the statements, each with a fixed text, inside a transaction that the caller ends. It
 //!   has a module for each table, and the SELECTs of rows are the variants of one enum
 //!   (`statements/select.rt`).
@@ -44,7 +45,7 @@
 //! # Not promised
 //!
 //! A statement may fail. An error may say that memory was refused although it was not, since a store may
-//! report this at any time. If the disk failed, the error does not name the fault of the disk. Rows of
+//! report this at any time. If the disk failed, the error does not name the fault of the disk. Cases of
 //! `test_tables` show that an INSERT is refused if its volume number, its name or its attachment exists.
 #![tactic(auto)]
 

@@ -38,8 +38,8 @@ fn are_indexes(indexes: &[Index]) -> bool
 /// These parts must agree, in the same order and in the same trees:
 ///
 /// - the name, type, default and NOT NULL of each column
-/// - the keys and the CHECK of each table
-/// - the columns of each index
+/// - the name, the keys and the CHECK of each table
+/// - the name and the columns of each index
 ///
 /// A further table, index or view makes the schemas differ.
 #[tactic(auto, using(crate::proofs::OursLemmas::is_ours, crate::proofs::OursLemmas::has_ours))]

@@ -113,7 +113,8 @@ pub struct PageRows {
     pub places: Vec<Row>,
 }
 
-/// Returns the number in the last row, or `after` if there is no row.
+/// Returns the number in the last row. Returns `after` if there is no row, or if this number is negative or
+/// not an integer.
 fn last_of(volumes: &[Row], after: u64) -> u64
     requires { after < 2 ^ 63 }
     ensures value { result ≡ last_number after volumes.now }

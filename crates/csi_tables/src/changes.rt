@@ -36,7 +36,8 @@ use std::slice::from_ref;
 /// The numbers in rows are below this number, since integers of SQLite are below 2^63.
 pub(crate) const NUMBERS: u64 = 1 << 63;
 
-// Reserves the memory that counting one more volume in a pool needs.
+// Reserves the memory that counting one more volume in a pool needs. Fails with `Refused` if the pool's total
+// cannot count the volume.
 fn reserve(alloc: Global, totals: &mut Totals, pool: &Text, bytes: u64) -> Result<(), TablesError>
     ensures room { OnOk result (HasRoom (total_of totals.old pool.now) bytes) }
     ensures reserved { OnOk result (IsReserved totals.new pool.now) }
@@ -79,7 +80,7 @@ pub(crate) fn make_volume<S: Alter>(
 }
 
 // Handles a change that has no effect, such as the removal of a volume number that no row can have. Makes one
-// read, which fails if the connection is shut. After `Ok` a stop leaves the State.
+// read, which fails if the connection is shut. After `Ok` a stop leaves only the unchanged State.
 fn make_nothing<S: Alter>(conn: &mut IdleConnection<S>) -> Result<(), TablesError>
     ensures { ConnStays S.Store conn.old conn.new result }
 {
@@ -96,7 +97,8 @@ fn write_cap(alloc: Global, cap: &CapKey) -> Result<Vec<u8>, AllocError>
     write_caps(alloc, from_ref(cap))
 }
 
-/// Adds the row of an attachment of a volume at a node.
+/// Adds the row of an attachment of a volume at a node. Fails with `Refused` if the number is 2^63 or above,
+/// or if the volume is attached to the node already.
 pub(crate) fn make_attachment<S: Alter>(
     alloc: Global,
     conn: &mut IdleConnection<S>,
@@ -123,7 +125,7 @@ pub(crate) fn make_attachment<S: Alter>(
     Ok(())
 }
 
-/// Deletes the row of a volume's attachment at a node.
+/// Deletes the row of a volume's attachment at a node. If there is no such row, nothing changes.
 pub(crate) fn unmake_attachment<S: Alter>(
     conn: &mut IdleConnection<S>,
     number: u64,
@@ -140,7 +142,7 @@ pub(crate) fn unmake_attachment<S: Alter>(
     Ok(())
 }
 
-/// Deletes the rows of all attachments of a volume.
+/// Deletes the rows of all attachments of a volume. If there are none, nothing changes.
 pub(crate) fn unmake_attachments<S: Alter>(
     conn: &mut IdleConnection<S>,
     number: u64,
@@ -156,8 +158,9 @@ pub(crate) fn unmake_attachments<S: Alter>(
     Ok(())
 }
 
-/// Removes a volume. Reads its pool and its size first, so that updating the pool's total needs no memory
-/// after the removal. The other columns of the row are not decoded, which would take memory.
+/// Removes a volume. If no volume has the number, nothing changes. Reads the volume's pool and size first, so
+/// that updating the pool's total needs no memory after the removal. The other columns of the row are not
+/// decoded, which would take memory.
 pub(crate) fn unmake_volume<S: Alter>(
     conn: &mut IdleConnection<S>,
     totals: &mut Totals,
@@ -190,8 +193,8 @@ fn params_of(volume: Option<Volume>) -> Option<Map>
     }
 }
 
-/// Replaces the mutable parameters of a volume. Reads the volume first, since its other parameters are in the
-/// same column and stay.
+/// Replaces the mutable parameters of a volume. If no volume has the number, nothing changes. Reads the
+/// volume first, since its other parameters are in the same column and stay.
 pub(crate) fn make_mutable<S: Alter>(
     alloc: Global,
     conn: &mut IdleConnection<S>,

@@ -13,7 +13,7 @@ use std::marker::Model;
 /// The reason why a call over the tables failed, if the keeper was not down.
 #[derive(Clone, Copy)]
 pub enum TablesFault {
-    /// Memory was refused.
+    /// Memory for the call was refused.
     NoMemory,
     /// The database refused the call, or a row has values that this program does not write.
     Refused,

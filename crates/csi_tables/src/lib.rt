@@ -35,10 +35,11 @@
 //!
 //! # Not promised
 //!
-//! The contracts do not promise that calls succeed, or which values the columns return. Rows of `test_tables`
-//! show both. The contracts allow a call to return `NoMemory` although memory was not refused. The test
-//! `tests/memory --tables` refuses each allocation of each call in turn. The clauses about `Refused` hold for
-//! States whose capabilities have known modes. Each State that meets the invariant is such a State.
+//! The contracts do not promise that calls succeed, or which values the columns return. Cases of
+//! `test_tables` show calls that succeed and the values of the columns. The contracts allow a call to return
+//! `NoMemory` although memory was not refused. The test `tests/memory --tables` refuses each allocation of
+//! each call in turn. The clauses about `Refused` hold for States whose capabilities have known modes. Each
+//! State that meets the invariant is such a State.
 #![tactic(auto)]
 
 mod changes;

@@ -41,7 +41,7 @@ impl<S: Alter> Tables<S> {
     /// # Not promised
     ///
     /// The contract promises nothing for a database that has other tables. It does not promise success, even
-    /// if memory is available. Rows of `test_tables` show both cases.
+    /// if memory is available. Tests of `test_tables` show both cases.
     pub fn make(alloc: Global, mut conn: Connection<S>) -> Result<Tables<S>, MakeFault<S>>
         requires idle { conn.in_transaction ≡ false }
         ensures made { IfOk result (λ tables. IsNewOver S.Store conn tables) }

@@ -158,7 +158,7 @@ pub(crate) fn attachment_from(alloc: Global, row: &Row) -> Result<Attachment, Ta
     })
 }
 
-/// Decodes the volumes in rows, in order. Fails with `Refused` if a row cannot be decoded.
+/// Decodes the volumes in rows, in the order of the rows. Fails with `Refused` if a row cannot be decoded.
 pub(crate) fn volumes_from(alloc: Global, rows: &[Row]) -> Result<Items<Volume>, TablesError>
     ensures ok { IfOk result (λ vs. (es : List (ℕ × Stored)) → AllByRecursion IsStored es
         → rows.now ≡ map volume_entry es → vs ≡ map (λ e. e.1) es) }
@@ -173,8 +173,8 @@ pub(crate) fn volumes_from(alloc: Global, rows: &[Row]) -> Result<Items<Volume>,
     Ok(volumes)
 }
 
-/// Decodes the attachments in the rows of one volume, in order. Fails with `Refused` if a row cannot be
-/// decoded.
+/// Decodes the attachments in the rows of one volume, in the order of the rows. Fails with `Refused` if a row
+/// cannot be decoded.
 pub(crate) fn attachments_from(
     alloc: Global,
     rows: &[Row],
@@ -192,7 +192,7 @@ pub(crate) fn attachments_from(
     Ok(attachments)
 }
 
-/// Returns the number of each volume, in order.
+/// Returns the number of each volume, in the order of the list.
 pub(crate) fn numbers_of(alloc: Global, volumes: &[Volume]) -> Result<Vec<u64>, AllocError>
     ensures { IfOk result (λ numbers. numbers.items ≡ map (λ v. v.number) volumes.now) }
 {
@@ -203,8 +203,8 @@ pub(crate) fn numbers_of(alloc: Global, volumes: &[Volume]) -> Result<Vec<u64>, 
     Ok(numbers)
 }
 
-/// Decodes the numbers in the first column of rows, in order. Fails with `Refused` if a value is not an
-/// integer or is negative.
+/// Decodes the numbers in the first column of rows, in the order of the rows. Fails with `Refused` if a value
+/// is not an integer or is negative.
 pub(crate) fn numbers_from(alloc: Global, rows: &[Row]) -> Result<Items<u64>, TablesError>
     ensures ok { IfOk result (λ xs. (ns : List ℕ) → rows.now ≡ map (λ n. number_value n ∷ []) ns → xs ≡ ns) }
     ensures refused { IsErrOf result Refused → (ns : List ℕ) → rows.now ≢ map (λ n. number_value n ∷ []) ns }

@@ -26,8 +26,9 @@ use std::cell::Cell;
 ///   also have left before the call, or the State with the change.
 /// - After a change fails, also for lack of memory, each further call fails with `Down`. A failed read has no
 ///   effect on later calls.
-/// - `Refused` has a cause, such as a fault of the disk, and never means that memory was refused.
-/// - The totals of a pool are read from memory, without a transaction.
+/// - `Refused` means that the database refused the call, for example after a fault of the disk, or that a row
+///   cannot be decoded. It never means that memory was refused.
+/// - The keeper has the totals of the pools outside the tables, so reading them needs no transaction.
 /// - No call changes the connection's limit on steps. A read of a number of 2^63 or above, which no row has,
 ///   takes no memory.
 ///

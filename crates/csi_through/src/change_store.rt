@@ -19,8 +19,8 @@ pub trait ChangeStore {
     ghost model: { Self → Model State };
 
     /// Makes a change. The variants of `Change` state when the State allows it. In any case, an added volume
-    /// must have a number below 2^62, at most 2^62 bytes, and capabilities in order without duplicates. New
-    /// mutable parameters must have at most 4,096 bytes.
+    /// must have a number below 2^62, at most 2^62 bytes, and capability keys in rising order without
+    /// duplicates. New mutable parameters must have at most 4,096 bytes.
     ///
     /// - After `Ok` the change is made, and a stop leaves the State with the change.
     /// - After `NoMemory` or `Refused` the State is unchanged. But a stop may leave the State with the

@@ -17,7 +17,7 @@ use std::alloc::Global;
 // The number of volumes that one read returns.
 const PAGE: u32 = 1000;
 
-// Adds the attachments of a volume to the memory, which has no attachments of the volume yet.
+// Adds the attachments of a volume to the copy, which has no attachments of the volume yet.
 #[tactic(auto, using(crate::proofs::CopyLemmas::allows_more, crate::proofs::CopyLemmas::attached_more))]
 fn attach_each(
     alloc: Global,
@@ -35,7 +35,7 @@ fn attach_each(
     Ok(())
 }
 
-// Returns true if the memory can have this next number: it is at most 2^62. Only a store that returns other
+// Returns true if the copy can have this next number: it is at most 2^62. Only a store that returns other
 // values than were written has a greater next number.
 fn is_numbered(next: u64) -> bool
     ensures { IsTrue result ↔ IsNumbered next }
@@ -43,7 +43,7 @@ fn is_numbered(next: u64) -> bool
     next <= MAX_NUMBER
 }
 
-// Returns true if the memory can have this volume: its number is below 2^62, and its size is at most 2^62
+// Returns true if the copy can have this volume: its number is below 2^62, and its size is at most 2^62
 // bytes. Only a store that returns other values than were written has a volume outside these bounds.
 fn is_held(volume: &Volume) -> bool
     ensures { IsTrue result ↔ IsHeld volume.now }
@@ -51,8 +51,8 @@ fn is_held(volume: &Volume) -> bool
     (volume.number < MAX_NUMBER) & (volume.bytes <= MAX_POOL_BYTES)
 }
 
-// Adds a volume with its attachments after the volumes in memory. Fails with `Refused` for a volume that the
-// memory cannot have, so that no volume is left out.
+// Adds a volume with its attachments after the volumes of the copy. Fails with `Refused` for a volume that
+// the copy cannot have, so that no volume is left out.
 fn restore(
     alloc: Global,
     memory: &mut MemKeeper,
@@ -106,7 +106,7 @@ fn attachments_of<K: Keeper>(
     keeper.attachments(alloc, number)
 }
 
-// Adds the volumes of a page with their attachments to the memory. `after` is the number of the volume before
+// Adds the volumes of a page with their attachments to the copy. `after` is the number of the volume before
 // the page. The volumes are moved. Returns the number of the last volume on the page, or `after` if the page
 // is empty.
 fn restore_page<K: Keeper>(
@@ -139,7 +139,7 @@ fn restore_page<K: Keeper>(
     Ok(last)
 }
 
-// Adds all volumes with their attachments to the memory, page by page.
+// Adds all volumes with their attachments to the copy, page by page.
 fn restore_all<K: Keeper>(
     alloc: Global,
     keeper: &mut K,
@@ -168,9 +168,9 @@ fn restore_all<K: Keeper>(
 ///
 /// # Errors
 ///
-/// Returns the fault of a read, or `NoMemory` if memory is refused. If a number or a size is out of bounds,
-/// returns `Refused`. Only a store that returns other values than were written has such a number or size. So
-/// if the State meets the invariant, each `Refused` comes from a read of the keeper.
+/// Returns the fault of a read, or `NoMemory` if an allocation is refused. If a number or a size is out of
+/// bounds, returns `Refused`. Only a store that returns other values than were written has such a number or
+/// size. So if the State meets the invariant, each `Refused` comes from a read of the keeper.
 pub(crate) fn copy_of<K: Keeper>(alloc: Global, keeper: &mut K) -> Result<MemKeeper, StoreFault>
     ensures keeper_unchanged { IsQuiet (K.model keeper.old) (K.model keeper.new) }
     ensures copy { IfOk result (λ memory. IsCopy (K.model keeper.old) (K.model keeper.new) memory) }

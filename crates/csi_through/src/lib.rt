@@ -18,9 +18,10 @@
 //! # Not promised
 //!
 //! Any call of a keeper may be refused. So no contract promises that each change is made in memory. If the
-//! memory has no room for a change, later reads are refused, but no contract promises this. Tests of
-//! `test_bytes` show both. If `over` or `copied` returns `NoMemory`, memory was refused. No contract promises
-//! this either, and `tests/test_csid_*.py` shows it.
+//! keeper in memory has no room for a change, later reads are refused, but no contract promises this. Tests
+//! of `test_bytes` show that changes are made in memory, and that such reads are refused. If `over` or
+//! `copied` returns `NoMemory`, an allocation was refused. No contract promises this either, and
+//! `tests/test_csid_*.py` shows it.
 #![tactic(auto)]
 
 mod change_store;

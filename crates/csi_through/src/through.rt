@@ -20,7 +20,7 @@ use csi_memory::MemKeeper;
 use csi_types::{Items, Text};
 use std::alloc::Global;
 
-// Starts a call. The call is refused if the memory lacks a change that the change store has.
+// Starts a call. The call is refused if the keeper in memory lacks a change that the change store has.
 fn start_call(health: &mut Health, is_current: bool) -> Result<(), StoreFault>
     ensures down { (result ≡ Err Down) ↔ IsTrue health.old.is_down }
     ensures fault { result ≢ Err NoMemory }
@@ -54,17 +54,17 @@ fn start_change(health: &mut Health, is_current: bool) -> Result<(), StoreFault>
 /// A keeper that reads from a keeper in memory, and passes each change to a change store first.
 ///
 /// Its State is the State of the change store, and a stop leaves what a stop of the change store leaves. If
-/// the change store fails to make a change, also for lack of memory, the keeper is down: each further call
-/// returns `Down`.
+/// the change store fails to make a change, also because an allocation is refused, the keeper is down: each
+/// further call returns `Down`.
 ///
 /// If the change store made a change but the keeper in memory did not, the call still returns `Ok`. The
-/// keeper in memory is then out of date: each read returns `Refused`. The next change returns `Refused` too,
-/// is not passed to the change store, and brings the keeper down.
+/// keeper in memory is then out of date: each read before the next change returns `Refused`. The next change
+/// also returns `Refused`: it is not passed to the change store, and brings the keeper down.
 pub struct Through<M, D> {
     memory: M,
     change_store: D,
     health: Health,
-    // True if the memory has each change that the change store has.
+    // True if the keeper in memory has each change that the change store has.
     is_current: bool,
 }
 
@@ -82,8 +82,8 @@ impl<M: Drop, D: Drop> Drop for Through<M, D> {
 }
 
 impl<M: Keeper, D: ChangeStore> Through<M, D> {
-    /// Makes a keeper over a memory and a change store that have the same State. If their States differ, the
-    /// contract promises nothing.
+    /// Makes a keeper from a keeper in memory and a change store that have the same State. If their States
+    /// differ, the contract promises nothing.
     pub fn new(memory: M, change_store: D) -> Through<M, D>
         ensures over { (result.memory ≡ memory) × (result.change_store ≡ change_store) }
         ensures fresh { (result.health.refusals ≡ 0) × (result.is_current ≡ true)
@@ -105,8 +105,8 @@ impl<M: Keeper, D: ChangeStore> Through<M, D> {
         self.health.is_down
     }
 
-    /// Returns true if the memory has each change that the change store has. If a change is missing, each
-    /// further read and each further change fails.
+    /// Returns true if the keeper in memory has each change that the change store has. If a change is
+    /// missing, each further read and each further change fails.
     pub fn is_current(&self) -> bool
         ensures { result ≡ self.now.is_current }
     {
@@ -128,11 +128,11 @@ impl<K: Keeper> Through<MemKeeper, KeeperChanges<K>> {
     /// of `keeper` in pages of 1,000, and the attachments of each volume that is published.
     ///
     /// If the State of `keeper` meets the invariant, the new keeper has the same State. A stop leaves the
-    /// same States as a stop of `keeper`. The memory has each change that the change store has.
+    /// same States as a stop of `keeper`. The copy has each change that the change store has.
     ///
     /// # Errors
     ///
-    /// If a read of `keeper` fails or memory is refused. The error contains `keeper`, whose State is
+    /// If a read of `keeper` fails or an allocation is refused. The error contains `keeper`, whose State is
     /// unchanged.
     pub fn over(
         alloc: Global,
@@ -157,7 +157,7 @@ impl<D: ChangeStore + Drop> Through<MemKeeper, D> {
     ///
     /// # Errors
     ///
-    /// Returns the fault of a read of `keeper`, or `NoMemory` if memory is refused.
+    /// Returns the fault of a read of `keeper`, or `NoMemory` if an allocation is refused.
     pub fn copied<K: Keeper>(
         alloc: Global,
         keeper: &mut K,
@@ -177,7 +177,7 @@ impl<D: ChangeStore + Drop> Through<MemKeeper, D> {
 }
 
 impl<M: Drop, D> Through<M, D> {
-    /// Returns the change store, which has each change that was made, and drops the memory.
+    /// Returns the change store, which has each change that was made, and drops the keeper in memory.
     pub fn into_change_store(self) -> D
         ensures { result ≡ self.change_store }
     {

@@ -10,7 +10,8 @@ pub enum Code {
     /// The call succeeded. Only a reply with this code has the body of a response.
     Ok = 0,
     /// The frame or the message of the call is malformed, or a field of the request is missing, too large,
-    /// not valid or not supported.
+    /// not valid or not supported. The code is also used if the volume lacks the requested capability, or if
+    /// its mutable parameters would become too large.
     InvalidArgument = 3,
     /// The volume or the node does not exist.
     NotFound = 5,

@@ -60,7 +60,7 @@ impl<T> Items<T> {
         vec
     }
 
-    /// Returns the values as a slice.
+    /// Returns the values as a slice, from first to last.
     pub fn as_slice(&self) -> &[T]
         ensures { result.now ≡ self.now }
     {
@@ -74,7 +74,7 @@ impl<T> Items<T> {
         self.vec.len()
     }
 
-    /// Returns true if the list is empty.
+    /// Returns true if the list has no values.
     pub fn is_empty(&self) -> bool
         ensures { result ≡ (length self.now == 0) }
     {

@@ -9,8 +9,8 @@
 //! keys with ASCII letters in lower case, the supported capabilities, and the code and text of each refusal.
 //! `topology.rt` compares topologies for all layers, and `topology/segments.rt` sorts the segments of a
 //! topology on the stack. A `Map` puts its entries into a list while the keys come in rising order. After the
-//! first key out of order, it puts further entries into a tree (`map/entering.rt`). So a map is fast for any
-//! order of keys. `map/entries.rt` iterates over list and tree.
+//! first key that is not greater than the keys before it, the map puts further entries into a tree
+//! (`map/entering.rt`). So a map is fast for any order of keys. `map/entries.rt` iterates over list and tree.
 //!
 //! ```rust
 //! let mut parameters = Map::new(alloc);
@@ -20,7 +20,7 @@
 //!
 //! # Not promised
 //!
-//! The `Debug` output of a value may change, although rows of `test_bytes` show it. The memory that a value
+//! The `Debug` output of a value may change, although cases of `test_bytes` show it. The memory that a value
 //! takes may change too.
 #![tactic(auto)]
 

@@ -17,7 +17,7 @@ pub const MAX_ACCESS_MODE: u8 = 7;
 /// mount group, the plugin's version, and a key or a value of a segment.
 pub const MAX_TEXT_BYTES: usize = 128;
 
-/// The greatest length of a node id in bytes.
+/// The greatest length of a node id in bytes, in requests and in the configuration.
 pub const MAX_NODE_ID_BYTES: usize = 256;
 
 /// The greatest length in bytes of all flags of one mount together.
@@ -26,19 +26,19 @@ pub const MAX_MOUNT_FLAGS_BYTES: usize = 4096;
 /// The greatest length in bytes of all keys and values of one map together.
 pub const MAX_MAP_BYTES: usize = 4096;
 
-/// The greatest number of pools of a configuration.
+/// The greatest number of pools of a configuration. The least number is 1.
 pub const MAX_POOLS: usize = 16;
 
-/// The greatest number of segments of a pool.
+/// The greatest number of segments of a pool. A pool may have none.
 pub const MAX_SEGMENTS: usize = 8;
 
-/// The greatest number of nodes of a configuration.
+/// The greatest number of nodes of a configuration. A configuration may have none.
 pub const MAX_NODES: usize = 64;
 
 /// The greatest number of volumes that exist at once, in all pools together.
 pub const MAX_VOLUMES: u64 = 100_000;
 
-/// The greatest number of entries on a page of a listing.
+/// The greatest number of entries on a page of a listing, also if the client asks for more.
 pub const MAX_PAGE_ENTRIES: u32 = 100;
 
 /// The greatest size of all pools together, in bytes (4 EiB).

@@ -22,8 +22,8 @@ use std::marker::Model;
 /// keys.
 ///
 /// A map has a list and a tree. While keys are inserted in rising order, their entries go into the list. When
-/// a key comes out of order, the entries of the list whose keys are not smaller move to the tree. From then
-/// on each new entry goes into the tree. So an entry moves at most once.
+/// a key is not greater than all keys in the list, the entries of the list from this key on move to the tree.
+/// From then on each new entry goes into the tree. So an entry moves at most once.
 ///
 /// Most maps have one entry, and most longer maps are filled in rising order of their keys. A map with one
 /// entry allocates room for this entry only.

@@ -17,13 +17,15 @@ pub enum Method {
     Probe,
     /// `csi.v1.Controller.CreateVolume`: creates a volume, or returns the existing volume with the name.
     CreateVolume,
-    /// `csi.v1.Controller.DeleteVolume`: deletes a volume.
+    /// `csi.v1.Controller.DeleteVolume`: deletes a volume that is published to no node. The call also
+    /// succeeds if the volume does not exist.
     DeleteVolume,
-    /// `csi.v1.Controller.ControllerPublishVolume`: publishes a volume to a node.
+    /// `csi.v1.Controller.ControllerPublishVolume`: publishes a volume to a node, with one capability.
     ControllerPublishVolume,
     /// `csi.v1.Controller.ControllerUnpublishVolume`: unpublishes a volume from one node or from all nodes.
     ControllerUnpublishVolume,
-    /// `csi.v1.Controller.ValidateVolumeCapabilities`: checks whether a volume has the given capabilities.
+    /// `csi.v1.Controller.ValidateVolumeCapabilities`: confirms that a volume has the given capabilities and
+    /// parameters, or says why not.
     ValidateVolumeCapabilities,
     /// `csi.v1.Controller.ListVolumes`: lists the volumes, page by page.
     ListVolumes,

@@ -13,19 +13,19 @@ use std::fmt;
 /// offset in the message.
 #[derive(Clone, Copy, Debug, PartialEq, Eq)]
 pub enum Reason {
-    /// `name` is empty.
+    /// `CreateVolumeRequest.name` is empty.
     NameMissing,
-    /// `name` has more than 128 bytes.
+    /// `CreateVolumeRequest.name` has more than 128 bytes.
     NameTooLong,
-    /// `name` has a control character other than tab, line feed and carriage return.
+    /// `CreateVolumeRequest.name` has a control character other than tab, line feed and carriage return.
     NameBanned,
-    /// No volume capability is given.
+    /// No volume capability is given to CreateVolume, ControllerPublishVolume or ValidateVolumeCapabilities.
     CapabilityMissing,
     /// A volume capability has neither `block` nor `mount`.
     AccessTypeMissing,
     /// The access mode of a volume capability is absent or unknown.
     AccessModeUnknown,
-    /// A requested capability is not supported: no volume can have it.
+    /// CreateVolume asks for a capability that no volume can have.
     CapabilityNotSupported,
     /// `required_bytes` or `limit_bytes` is below 0.
     CapacityNegative,
@@ -38,15 +38,15 @@ pub enum Reason {
     SourceNotSupported,
     /// Two keys of one topology differ only in the case of ASCII letters.
     TopologyKeysAlike,
-    /// A preferred topology is not among the requisite topologies.
+    /// Requisite topologies are given, and a preferred topology is not among them.
     PreferredNotRequisite,
     /// `volume_id` is empty.
     VolumeIdMissing,
-    /// `node_id` is empty.
+    /// `ControllerPublishVolumeRequest.node_id` is empty.
     NodeIdMissing,
     /// `ListVolumesRequest.max_entries` (field 1) is below 0.
     MaxEntriesNegative,
-    /// `mutable_parameters` has no entry.
+    /// `ControllerModifyVolumeRequest.mutable_parameters` has no entry.
     MutableMissing,
     /// No method has the path of the call.
     UnknownMethod,
@@ -56,7 +56,8 @@ pub enum Reason {
     NodeNotFound,
     /// A volume with this name exists, and differs from what the request asks for.
     VolumeNotCompatible,
-    /// No pool that serves the topology has room for the volume.
+    /// No pool both has room for the volume and serves a topology of the request. If the request has no
+    /// requisite topology, no pool at all has room.
     NoRoom,
     /// The plugin has 100,000 volumes, which is the greatest number.
     TooManyVolumes,
@@ -71,7 +72,7 @@ pub enum Reason {
     /// The volume is published to the requested node already, with another capability or another `readonly`
     /// flag.
     PublishedOtherwise,
-    /// The node already has the greatest number of published volumes.
+    /// The node already has its greatest number of published volumes (`max_volumes` in the configuration).
     NodeFull,
     /// The volume does not have the requested capability.
     CapabilityNotOfVolume,
@@ -79,14 +80,15 @@ pub enum Reason {
     BadToken,
     /// With the requested changes, the mutable parameters of the volume would have more than 4,096 bytes.
     MutableTooLarge,
-    /// The reply would be longer than 4,194,304 bytes.
+    /// The body of the reply would be longer than 4,194,304 bytes.
     ReplyTooLarge,
     /// Memory was refused while the call was executed.
     OutOfMemory,
     /// The store refused a read or a change of the call. No change is visible. But if the store refused a
     /// change, the change may be visible after a restart.
     StoreRefused,
-    /// The store failed during an earlier call, and takes no call until it is opened again.
+    /// A change of an earlier call failed, perhaps only for lack of memory. The store takes no call until it
+    /// is opened again.
     StoreDown,
 }
 

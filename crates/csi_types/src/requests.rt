@@ -16,7 +16,8 @@ use std::fmt;
 pub struct CreateVolume {
     /// `name`, field 1: the name that the client chose for the volume.
     pub name: Text,
-    /// `capacity_range`, field 2: the requested range of sizes, or `None` if any size will do.
+    /// `capacity_range`, field 2: the requested range of sizes, or `None` if the field is absent. Then a new
+    /// volume has the default size, and an existing volume may have any size.
     pub range: Option<CapacityRange>,
     /// `volume_capabilities`, field 3: the ways in which the volume must be usable.
     pub capabilities: Items<Capability>,
@@ -26,7 +27,8 @@ pub struct CreateVolume {
     pub secrets: Map,
     /// True if `volume_content_source`, field 6, is present. Its content is not kept.
     pub source: bool,
-    /// `accessibility_requirements`, field 7: the topologies from which the volume must be accessible.
+    /// `accessibility_requirements`, field 7: the topologies from which the volume must be accessible, or
+    /// `None` if the field is absent. Then any pool will do.
     pub topology: Option<Requirement>,
     /// `mutable_parameters`, field 8: the parameters that can be changed later.
     pub mutable: Map,
@@ -77,7 +79,8 @@ pub struct Publish {
     pub readonly: bool,
     /// `secrets`, field 5. This plugin checks their size and does not use them.
     pub secrets: Map,
-    /// `volume_context`, field 6: the context that CreateVolume returned.
+    /// `volume_context`, field 6: the context that CreateVolume returned. This plugin checks its size and
+    /// does not use it.
     pub context: Map,
 }
 
@@ -120,7 +123,8 @@ impl fmt::Debug for Unpublish {
 pub struct Validate {
     /// `volume_id`, field 1: the id of the volume that the question is about.
     pub volume_id: Text,
-    /// `volume_context`, field 2: the context that CreateVolume returned.
+    /// `volume_context`, field 2: the context that CreateVolume returned. This plugin checks its size and
+    /// does not use it.
     pub context: Map,
     /// `volume_capabilities`, field 3: the capabilities that the volume may have.
     pub capabilities: Items<Capability>,
@@ -156,7 +160,8 @@ pub struct ListVolumes {
 pub struct GetCapacity {
     /// `volume_capabilities`, field 1: the capabilities that new volumes must have.
     pub capabilities: Items<Capability>,
-    /// `parameters`, field 2: the parameters of new volumes, which this plugin does not use.
+    /// `parameters`, field 2: the parameters of new volumes. This plugin checks their size and does not use
+    /// them.
     pub parameters: Map,
     /// `accessible_topology`, field 3: the segments of the topology from which new volumes must be
     /// accessible. It is `None` if the field is absent, and then all pools count.

@@ -162,7 +162,7 @@ impl Text {
         self.as_str().len()
     }
 
-    /// Returns true if the text is empty.
+    /// Returns true if the text has no bytes.
     pub fn is_empty(&self) -> bool
         ensures { result ≡ (length self.now == 0) }
     {

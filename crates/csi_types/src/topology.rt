@@ -70,7 +70,8 @@ fn is_key_alike_before(topology: &Map, count: usize, key: &Text) -> bool
 }
 
 // Returns true if two keys of the topology differ at most in ASCII case. Sorts the segments by their keys and
-// compares neighbours. The sorted segments are a large local variable, so the call is not inlined.
+// compares neighbours. If the topology has more than `MOST_SEGMENTS` segments, compares all pairs instead.
+// The sorted segments are a large local variable, so the call is not inlined.
 #[inline(never)]
 fn has_alike_neighbours(topology: &Map) -> bool
     ensures { result ≡ has_alike_keys topology.now }
@@ -123,7 +124,8 @@ fn is_within_few(inner: &Map, outer: &Map) -> bool
 }
 
 // Returns true if `outer` has each segment of `inner`. Looks for each segment of `inner` among the sorted
-// segments of `outer`. The sorted segments are a large local variable, so the call is not inlined.
+// segments of `outer`. If `outer` has more than `MOST_SEGMENTS` segments, compares all pairs instead. The
+// sorted segments are a large local variable, so the call is not inlined.
 #[inline(never)]
 fn is_within_many(inner: &Map, outer: &Map) -> bool
     ensures { result ≡ is_within inner.now outer.now }
@@ -178,7 +180,7 @@ fn has_segment(topology: &Map, key: &Text, value: &Text) -> bool
 }
 
 /// Returns true if two topologies have the same segments. The case of ASCII letters in keys is ignored.
-/// Neither `one` nor `other` may have two keys that differ only in this case.
+/// Neither `one` nor `other` may have two keys that differ only in the case of ASCII letters.
 pub fn same_topology(one: &Map, other: &Map) -> bool
     requires keys_differ { has_alike_keys one.now ≡ false }
     requires other { has_alike_keys other.now ≡ false }

@@ -10,7 +10,7 @@ use crate::text::Text;
 pub struct VolumeInfo {
     /// `capacity_bytes`, field 1: the size of the volume in bytes.
     pub bytes: i64,
-    /// `volume_id`, field 2: the id by which later requests name the volume.
+    /// `volume_id`, field 2: the id with which later requests name the volume.
     pub id: Text,
     /// `volume_context`, field 3: properties of the volume, for the node plugin.
     pub context: Map,

@@ -98,7 +98,8 @@ impl FrameWhy {
 pub struct FrameFault {
     /// The rule that the frame breaks.
     pub why: FrameWhy,
-    /// The place of the fault: the offset of a byte, counted from 0 at the start of the input.
+    /// The place of the fault: the offset of a byte, counted from 0 at the start of the input. In a fault
+    /// from [`take_frame`](crate::take_frame) the input is its argument.
     pub at: u64,
 }
 

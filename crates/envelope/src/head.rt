@@ -37,7 +37,7 @@ fn body_length_of(kind: FrameKind, bytes: &[u8], from: usize) -> usize
         + usize::from(bytes[from + 3])
 }
 
-/// The place and the length of a frame's body, read from the bytes before the body.
+/// The offset and the length of a frame's body, read from the bytes before the body.
 #[derive(Clone, Copy)]
 pub struct Head {
     /// The offset of the body in the frame, in bytes.
@@ -106,7 +106,7 @@ pub struct Flaw {
 /// that break a rule of frames.
 #[derive(Clone, Copy)]
 pub enum Look {
-    /// The bytes are the start of a frame that is not complete, and break no rule.
+    /// The bytes are empty, or they are the start of a frame that is not complete. They break no rule.
     Short,
     /// The bytes begin with a complete frame. The number is the length of the frame in bytes.
     Whole(usize),

@@ -66,7 +66,8 @@ impl ReplyWhy {
 pub struct ReplyFault {
     /// The rule that the reply breaks.
     pub why: ReplyWhy,
-    /// The place of the fault: the offset of a byte, counted from 0 at the start of the input.
+    /// The place of the fault: the offset of a byte, counted from 0 at the start of the input. In a fault
+    /// from [`take_reply`](crate::take_reply) the input is its argument.
     pub at: u64,
 }
 

@@ -11,7 +11,7 @@ use envelope::{Flaw, FrameKind, Head, Look, look_at};
 /// The bytes of a piece that [`take_prefix`] took, and the result of taking them.
 #[derive(Clone, Copy)]
 pub(crate) struct Prefix {
-    /// The number of bytes that were taken.
+    /// The number of bytes of the piece that were taken.
     pub count: usize,
     /// The rule that the last taken byte breaks, or `None` if no rule is broken. The place in the flaw is
     /// counted from the start of the held bytes.

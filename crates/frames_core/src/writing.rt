@@ -37,7 +37,7 @@ fn put<W: Write>(writer: &mut W, bytes: &[u8]) -> io::Result<()>
 ///
 /// # Not promised
 ///
-/// The contract does not say that the bytes are flushed. Rows of `test_bytes` show that they are.
+/// The contract does not say that the bytes are flushed. Cases of `test_bytes` show that they are.
 #[inline(always)]
 pub fn send<W: Write>(writer: &mut W, frame: &[u8]) -> io::Result<()>
     ensures all { OnOk result (Appends (W.contents writer.old) (W.contents writer.new) frame.now) }

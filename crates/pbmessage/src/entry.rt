@@ -9,7 +9,7 @@ use crate::slots::{is_text, set_text};
 use csi_types::Text;
 use std::alloc::{AllocError, Global};
 
-/// Stands for the package of [`MapEntry`], as the parameter `P` of [`Message`].
+/// Represents the package of [`MapEntry`], as the parameter `P` of [`Message`].
 pub struct Entries;
 
 /// An entry of a map of texts: its key, field 1, and its value, field 2.

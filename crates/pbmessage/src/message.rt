@@ -14,11 +14,12 @@ use pbwire::laws::spelled;
 use pbwire::{Field, Fields, Value};
 use std::alloc::{AllocError, Global};
 
-/// A type that is decoded from the fields of a message, by merging them into an empty value in order. The
-/// order of fields with different numbers does not matter, except for the members of a oneof.
+/// A type that is decoded from the fields of a message, by merging the fields into an empty value in the
+/// order of the bytes. The order of fields with different numbers does not matter, except for the members of
+/// a oneof.
 ///
-/// `P` stands for the package of the message. The crate that implements this trait must have its own type
-/// `P`, since the type of the value may belong to another crate.
+/// `P` is a type that represents the Protocol Buffers package of the message. The crate that implements this
+/// trait must have its own type `P`, since the type of the value may belong to another crate.
 pub trait Message<P>: Drop {
     /// The field numbers of the texts and embedded messages.
     ghost schema: { Schema };
@@ -35,7 +36,8 @@ pub trait Message<P>: Drop {
     fn is_good(number: u32, payload: &[u8]) -> bool
         ensures { IsTrue result ↔ Good schema number payload.now };
 
-    /// Merges a field with a varint into the value.
+    /// Merges a field with a varint into the value. If no number or flag of the message has this field
+    /// number, the value is unchanged.
     fn merge_number(&mut self, number: u32, value: u64)
         ensures { (v : Views) → self.old ≡ of v → self.new ≡ of (with_number number value v) };
 
@@ -99,8 +101,8 @@ fn merge_field<P, M: Message<P>>(
 /// Returns the offset of the first field that is not good, or `None` if the bytes are a list of good fields.
 /// Takes no memory.
 ///
-/// A field is good if it is well-formed. If its number belongs to a text or an embedded message, its payload
-/// must be well-formed too.
+/// A field is good if it is well-formed. If its number belongs to a text or an embedded message, and the
+/// field has a payload, the payload must be well-formed too.
 pub fn first_fault<P, M: Message<P>>(bytes: &[u8]) -> Option<usize>
     ensures { MatchOption result (AreGood (GoodField (Good M.schema)) bytes.now)
         (IsRefusedAt (GoodField (Good M.schema)) bytes.now) }

@@ -3,7 +3,7 @@
 //! An embedded message is written in place: first a field with an empty payload, then the fields of the
 //! message. Then the length of the payload is set.
 //!
-//! If memory is refused, each function fails, and may have appended a part of the field.
+//! If memory is refused, each `put_` function fails, and may have appended a part of the field.
 
 ghost use Rattle.std.specs.Prelude.{◌≡◌, ◌++◌, ◌∷◌, [], ◌≤◌, ◌<◌, ◌^◌, List, OnOk, OnErr, option_to_list, length, take};
 ghost use Rattle.std.specs.FinMap.{empty, entries, insert};
@@ -17,8 +17,9 @@ use pbwire::laws::closed;
 use pbwire::{close_bytes, put_bytes, put_entry, put_varint};
 use std::alloc::AllocError;
 
-/// A type whose values have one encoding each. `P` stands for the package of the message. The crate that
-/// implements this trait must have its own type `P`, since the type of the value may belong to another crate.
+/// A type whose values have one encoding each. `P` is a type that represents the Protocol Buffers package of
+/// the message. The crate that implements this trait must have its own type `P`, since the type of the value
+/// may belong to another crate.
 pub trait Written<P> {
     /// The fields of the encoding, by field number.
     ghost canon: { Self → Rows };

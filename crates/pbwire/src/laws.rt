@@ -40,8 +40,8 @@ pub fn listed()
 {}
 
 /// The shortest encoding of a field is read back as the field, with any bytes after it. If the fields of a
-/// list are written in order, the bytes are a message with this list of fields. No other encoding of a field
-/// is shorter. A field can be encoded if and only if its number and its value are in range.
+/// list are written one after the other, the bytes are a message with this list of fields. No other encoding
+/// of a field is shorter. A field can be encoded if and only if its number and its value are in range.
 #[inline(always)]
 pub fn written()
     ensures again { (e : WireField) (more : List ℕ) → FitsField e

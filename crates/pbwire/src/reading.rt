@@ -131,8 +131,8 @@ fn read_field(bytes: &[u8]) -> Result<(Field<'_>, &[u8]), WireWhy>
     ))
 }
 
-/// Reads the fields of a message in order, up to the first fault. Payloads are borrowed from the message, and
-/// nothing is allocated.
+/// Reads the fields of a message one after the other, up to the first fault. Payloads are borrowed from the
+/// message, and nothing is allocated.
 #[derive(Drop)]
 pub struct Fields<'a> {
     len: usize,

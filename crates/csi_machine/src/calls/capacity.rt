@@ -34,8 +34,8 @@ fn is_served(topology: &Option<Map>, room: &Room<'_>) -> bool
     }
 }
 
-// Returns two numbers for the pools that serve the topology: the sum of their free bytes, and the greatest
-// number of free bytes in one pool.
+// Returns two numbers for the pools that serve the topology, or for all pools if it is `None`: the sum of
+// their free bytes (at most 2^64 - 1), and the greatest number of free bytes in one pool.
 fn free_in(rooms: &[Room<'_>], topology: &Option<Map>) -> (u64, u64)
     ensures sum { result.0 ≡ up_to_u64 (sum_by free (served (map room_value rooms.now) topology.now)) }
     ensures greatest { result.1 ≡ greatest (map free (served (map room_value rooms.now) topology.now)) }
@@ -86,7 +86,8 @@ fn capacity_of(
 }
 
 /// Plans GetCapacity. The answer is the free bytes of the pools that serve the topology, and the greatest
-/// size that a volume can have in one of them. Both are 0 if a capability is not supported.
+/// size that a volume can have in one of them. Without a topology, all pools count. Both numbers are 0 if a
+/// capability is not supported.
 impl Planned for GetCapacity {
     ghost planned = { capacity };
 

@@ -21,7 +21,9 @@ use csi_types::{
 };
 use std::alloc::{AllocError, Global};
 
-// Returns true if an existing volume, whose pool has these segments, is compatible with the request.
+// Returns true if an existing volume, whose pool has these segments, is compatible with the request: the pool
+// serves a requisite topology if one is given, the size is within the range, the volume has each capability,
+// its parameters are equal, and it has each mutable parameter of the request.
 fn is_compatible(
     alloc: Global,
     segments: &Map,
@@ -155,7 +157,7 @@ fn create_fresh<'a, K: Keeper>(
     Ok(fresh(alloc, config, &rooms, next, request)?)
 }
 
-/// Plans CreateVolume, by reads of the keeper alone. `no_segments` must be an empty map. It stands for the
+/// Plans CreateVolume, by reads of the keeper alone. `no_segments` must be an empty map. It is used as the
 /// segments of a pool that the configuration lacks.
 ///
 /// If a volume with this name exists and is compatible with the request, the answer is that volume. If it

@@ -113,9 +113,10 @@ fn append_after<K: Keeper>(
     Ok(limit_body(out, from))
 }
 
-/// Appends the body of a page of at most 100 entries. If the token of the request is not valid, the request
-/// is refused. The token of the next page is the number of the last volume on this page. This volume may be
-/// deleted before the client asks for the next page.
+/// Appends the body of a page of volumes. The page has at most `max_entries` entries and at most 100; if
+/// `max_entries` is 0 or below, only the limit of 100 holds. The request is refused if its token is not valid
+/// or the page is too large for a reply. If more volumes follow, the token of the next page is the number of
+/// the last volume on this page. This volume may be deleted before the client asks for the next page.
 #[inline(always)]
 pub(crate) fn append_page<K: Keeper>(
     alloc: Global,

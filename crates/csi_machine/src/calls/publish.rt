@@ -55,7 +55,7 @@ fn attach(alloc: Global, target: &Target, mine: Attachment) -> Result<Plan, Allo
     make(alloc, answer, Change::Attach(target.number, mine))
 }
 
-/// Returns the attachment to this node, or `None` if the volume is not attached to it.
+/// Returns the attachment to this node, or `None` if no attachment in the list is to this node.
 pub(crate) fn attachment_at<'a>(
     attachments: &'a [Attachment],
     node: &Text,
@@ -143,6 +143,17 @@ fn publish_node<K: Keeper>(
     Ok(publish_at(alloc, &target, request)?)
 }
 
+/// Plans ControllerPublishVolume. If the volume is attached to the node with the same capability key and the
+/// same `readonly` flag, nothing changes, and the answer is the same as for a new publication.
+///
+/// The request is refused in the first of these cases that applies:
+///
+/// - no volume has the volume id, or no node of the configuration has the node id
+/// - the capability is missing or has no key
+/// - the volume is attached to the node with another key or flag
+/// - the volume has neither the key nor its wider key (`csi_keeper::wider_key`)
+/// - an attachment of the volume cannot coexist with the new attachment
+/// - the node has its greatest number of volumes
 impl Planned for Publish {
     ghost planned = { publish };
 

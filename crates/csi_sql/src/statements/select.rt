@@ -29,7 +29,8 @@ pub(crate) enum Select<'a> {
     /// second argument is the greatest number of volumes.
     Page(u64, u32),
     /// The number and the node of each attachment whose number is greater than the first argument and not
-    /// greater than the second.
+    /// greater than the second, in rising order of the numbers. Attachments with the same number are in byte
+    /// order of the nodes.
     Places(u64, u64),
 }
 

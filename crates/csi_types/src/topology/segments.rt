@@ -20,7 +20,7 @@ pub(crate) const MOST_SEGMENTS: usize = 2_113;
 /// do not affect the order.
 #[derive(Clone, Copy)]
 pub(crate) struct Segment<'m> {
-    /// The key, as it is in the topology.
+    /// The key in the topology. Its letters keep their case.
     pub key: &'m Text,
     /// The value that the topology has under this key.
     pub value: &'m Text,
