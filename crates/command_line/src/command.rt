@@ -24,7 +24,7 @@ pub enum ArgumentsFault {
     /// Help or the version could not be written.
     #[error("a write to standard output failed")]
     WriteFailed,
-    /// Memory for the arguments was refused.
+    /// Memory was refused for the arguments, for the commands that parse them, or for the line about them.
     #[error("out of memory")]
     NoMemory,
 }

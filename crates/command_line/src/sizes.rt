@@ -83,8 +83,9 @@ fn text_in(alloc: Global, units: &[Unit], bytes: u64) -> Result<String, AllocErr
     format!(in alloc; "{bytes} B")
 }
 
-/// Returns a size as a text in the greatest binary unit that shows it exactly with at most one decimal, such
-/// as `1 GiB` or `1.5 MiB`. If no unit does, the text is in bytes, such as `1000 B`.
+/// Returns a size as a text in a binary unit, such as `1 GiB` or `1.5 MiB`. The unit is the greatest one that
+/// is at most the size and shows it exactly with at most one decimal. If there is none, the text is in bytes,
+/// such as `1000 B`.
 ///
 /// # Errors
 ///

@@ -168,8 +168,8 @@ pub fn gives_up(config: &Config)
         × IsGivenUp config.now s (step config.now s r).1 r q (given_up_refused r q) }
 {}
 
-/// `csi_machine::laws::retry`, the law of one client among others that only read, follows from
-/// [`linearizable`] for a single client.
+/// `csi_machine::laws::retry` follows from [`linearizable`]. It is the case of one client that tries its
+/// requests, while all other clients only make requests that change nothing.
 pub fn retry_alone(config: &Config)
     ensures { (s t : State) (requests : List Request) (sessions : List (List Try)) (reported : List Report)
         → IsInvariant config.now s

@@ -89,8 +89,13 @@ fn put_id(buffer: &mut [u8], end: usize, prefix: &str, number: u64) -> usize
 }
 
 /// Writes an entry without nodes into the last bytes of the buffer, and returns the offset of its first byte.
-/// Returns `None` if the prefix of the id is empty, or if the entry may be too long. The nodes in `entry` are
-/// ignored.
+/// The nodes in `entry` are ignored.
+///
+/// Returns `None` in these cases:
+///
+/// - the prefix of the id is empty or has more than 16 bytes
+/// - the ending of the placement has more than 123 bytes
+/// - the entry would have more than 127 bytes
 #[inline(always)]
 pub(crate) fn put_short(buffer: &mut [u8], entry: &ListedEntry) -> Option<usize>
     requires { length buffer.old ≡ 176 }

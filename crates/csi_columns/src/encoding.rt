@@ -1,5 +1,6 @@
-//! Encodes capabilities and parameters for a column, as the canonical bytes of a `CreateVolumeRequest` that
-//! has no other fields.
+//! Encodes capabilities for the column `caps`, and parameters with mutable parameters for the column
+//! `params`. Each column has the canonical bytes of a `CreateVolumeRequest` in which all other fields are
+//! absent.
 //!
 //! So the format of a column depends on the field numbers of this request. A change of how the fields are
 //! encoded needs a migration of every file.

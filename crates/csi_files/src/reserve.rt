@@ -45,8 +45,9 @@ fn held(alloc: Global, bytes: usize) -> Result<Vec<u8>, AllocError>
     Vec::with_capacity(alloc, bytes)
 }
 
-/// Holds 4 MiB of memory for calls until the result is dropped. Each of the four blocks is as large as the
-/// longest message, since free memory is seldom in one piece.
+/// Allocates four blocks of 1 MiB, which shows that calls still have 4 MiB. The calls can use this memory
+/// after the result is dropped. A block is as large as the longest message. One block of 4 MiB is not asked
+/// for, since free memory is seldom in one piece.
 ///
 /// # Errors
 ///

@@ -40,7 +40,8 @@ pub fn copy_keys(alloc: Global, keys: &Items<CapKey>) -> Result<Items<CapKey>, A
     Ok(copy)
 }
 
-/// Copies a volume with all its fields, with memory of `alloc`.
+/// Returns a copy of a volume, with the same number. The copy owns all its parts: its texts, capabilities and
+/// maps share no memory with `volume`.
 ///
 /// # Errors
 ///

@@ -51,7 +51,8 @@ fn check_kind(rt: &HostRuntime, path: &str) -> Result<(), Failure>
     existing_failure(rt.alloc(), path, fault_of_kind(rt, path))
 }
 
-/// Checks that a file has tables, as far as its header shows, and changes nothing.
+/// Checks that a file has tables, as far as its header shows, and changes nothing. A file that cannot be read
+/// passes, since the opening reports the reason.
 ///
 /// # Errors
 ///

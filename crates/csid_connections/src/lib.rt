@@ -4,8 +4,9 @@
 //! # Not promised
 //!
 //! The contracts do not say what a socket gives, takes or refuses, or when a wait of the system ends. They do
-//! not say that [`Turn`] has one clock for both of its ends, since no clause knows the content of a cell.
-//! They allow that a connection without a call is closed as failed, even if no read of it failed.
+//! not say that the two ends of a [`Turn`] share one clock: the clock is in a `RefCell`, and a contract cannot
+//! state the content of a `RefCell`. They allow that a connection without a call is closed with the ending
+//! `Failed`, even if no read of it failed.
 //!
 //! # How it works
 //!
@@ -13,8 +14,8 @@
 //! sends nothing delays no other connection. [`Turn`] is the connection that is served. A read or a write
 //! waits only for the time that the peer may take, and polls the waiting connections during this time. The
 //! two ends of a turn, [`TurnReader`] and [`TurnWriter`], read and write the bytes of the stream without a
-//! gap, also after a wait. [`GuardedWriter`] writes a reply only if it holds: no other program can have
-//! changed the volumes.
+//! gap, also after a wait. A reply holds if no other program can have changed the volumes. [`GuardedWriter`]
+//! writes only replies that hold.
 //!
 //! `specs/Waiting.antt` says when a connection leaves the queue (`Ends`, `ComesIn`), and `specs/Calling.antt`
 //! how the time of a call is counted.

@@ -215,8 +215,8 @@ fn append_joined(
     close_bytes(out, from)
 }
 
-/// Appends a field whose bytes are `first` followed by `second` (wire type 2). If memory is refused, the
-/// vector is unchanged.
+/// Appends a field (wire type 2) whose payload is `first` followed by `second`. `number` must be from 1 to
+/// 536,870,911. If memory is refused, the vector is unchanged.
 pub fn put_joined(
     out: &mut Vec<u8>,
     number: u32,

@@ -15,7 +15,8 @@ pub(super) const STORE_REFUSED: &[u8] = b"\x0d\x00\x0dstore refused\x00\x00\x00\
 
 const STORE_DOWN: &[u8] = b"\x0d\x00\x0dstore is down\x00\x00\x00\x00\x00";
 
-/// A number of calls that no stream makes to its store: each stream makes fewer.
+/// The greatest number of calls to its store that the trials of a stream refuse, one in each trial. Each
+/// stream makes fewer calls. If a stream makes this many, its trial fails.
 pub(super) const MOST_CALLS: u64 = 1_000_000;
 
 /// A run over a store that refuses a call: how the run ended, the bytes that the server wrote, and the number

@@ -1,4 +1,4 @@
-//! The configurations that test rows name.
+//! The configurations to which rows of the tests refer by name.
 
 use csi_config::Config;
 use std::alloc::Global;
