@@ -127,9 +127,9 @@ impl<K: Keeper> Through<MemKeeper, KeeperChanges<K>> {
     /// Makes a keeper over a copy of `keeper` in memory, with `keeper` as the change store. Reads the volumes
     /// of `keeper` in pages of 1,000, and the attachments of each volume that is published.
     ///
-    /// If the State of `keeper` meets the invariant, the new keeper has the same State. A stop of the new keeper
-    /// leaves only States that a stop of `keeper` may leave. The new keeper is not down, has counted no refusal,
-    /// and is current ([`Through::is_current`]).
+    /// If the State of `keeper` meets the invariant, the new keeper has the same State. A stop of the new
+    /// keeper leaves only States that a stop of `keeper` may leave. The new keeper is not down, has counted
+    /// no refusal, and is current ([`Through::is_current`]).
     ///
     /// # Errors
     ///

@@ -131,8 +131,8 @@ impl CallClock {
         self.delayed = None;
     }
 
-    /// Returns the time left for the current call or reply at `now`, or `None` between two calls. The first use
-    /// of this function in a call or reply starts its time at `now`.
+    /// Returns the time left for the current call or reply at `now`, or `None` between two calls. The first
+    /// use of this function in a call or reply starts its time at `now`.
     ///
     /// # Errors
     ///
