@@ -118,7 +118,8 @@ func startService(opts options, socket *sockets.Socket, revisions *revisions, li
 	return s
 }
 
-// end ends the running call, then releases the lock, and then saves the revision.
+// end takes no further calls and waits for the running one, then releases the lock, and then saves
+// the revision.
 func (s *service) end() {
 	s.socket.Close()
 	s.server.end()
@@ -128,7 +129,8 @@ func (s *service) end() {
 	<-s.saved
 }
 
-// serve campaigns for the lock and answers csid until a signal arrives. It returns the exit status.
+// serve campaigns for the lock and answers csid until a signal arrives or taking connections fails.
+// Then it ends, at once if a further signal arrives, and returns the exit status.
 func serve(opts options, socket *sockets.Socket, revisions *revisions, stop <-chan os.Signal, lines *logger) int {
 	s := startService(opts, socket, revisions, lines)
 	defer s.cancel()

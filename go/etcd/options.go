@@ -39,7 +39,8 @@ const (
 // maxID is the greatest length of --id in bytes.
 const maxID = 128
 
-// options holds the parsed command line.
+// options holds the parsed command line. In the result of readOptions, name is always the name of
+// the plugin, and filter has what --list selects.
 type options struct {
 	name         string
 	listen       string
@@ -212,7 +213,7 @@ func defaultID() string {
 // nameForm matches the plugin names that CSI allows.
 var nameForm = regexp.MustCompile(`^[A-Za-z0-9]([A-Za-z0-9.-]{0,61}[A-Za-z0-9])?$`)
 
-// check refuses missing options and values out of range.
+// check refuses missing options, malformed values and values out of range.
 func check(opts options) error {
 	switch {
 	case opts.name == "":

@@ -12,7 +12,7 @@ import (
 	"fomaheti/frames"
 )
 
-// A page ends once it has targetPageBytes, and never has more than maxPageBytes.
+// A page ends once its rows have targetPageBytes, and its rows never have more than maxPageBytes.
 const (
 	targetPageBytes = 1 << 20
 	maxPageBytes    = 3 << 20
@@ -51,7 +51,8 @@ type page struct {
 	err   error
 }
 
-// newWalk starts a walk and returns the start of its first page: the row of meta, if it exists.
+// newWalk starts a walk and returns the start of its first page: the row of meta, or nil if there
+// is none. It refuses a walk if the plugin has unknown keys.
 func newWalk(ctx context.Context, t *term) (*walk, []byte, error) {
 	if err := t.fence(ctx); err != nil {
 		return nil, nil, err
@@ -77,8 +78,8 @@ func newWalk(ctx context.Context, t *term) (*walk, []byte, error) {
 	return w, nil, nil
 }
 
-// unknownKeys returns the reads of the gaps between the keys of rows and of the lock. A key in a
-// gap is unknown.
+// unknownKeys returns reads that find the keys of the plugin that belong neither to rows nor to the
+// lock: one read for each gap between the known ranges.
 func (k keys) unknownKeys() (reads []clientv3.Op) {
 	begin := k.all()
 	for _, known := range []struct{ begin, end string }{
@@ -99,7 +100,7 @@ func (w *walk) first(ctx context.Context, begin []byte) ([]byte, error) {
 	return w.deliver(ctx, w.read(ctx, begin))
 }
 
-// next returns the next page.
+// next returns the next page, which is being read ahead. It must not be called after the last page.
 func (w *walk) next(ctx context.Context) ([]byte, error) { return w.deliver(ctx, <-w.ahead) }
 
 // deliver returns a page and starts to read the next one while csid puts the rows of this page into
@@ -189,7 +190,7 @@ func nextLimit(rows, bytes int64) int64 {
 	return limit
 }
 
-// row encodes a row as a field of a page.
+// row checks a row of etcd, and encodes it as a field of a page.
 func (w *walk) row(found *mvccpb.KeyValue) ([]byte, error) {
 	key := string(found.Key)
 	_, field, err := w.term.keys.pageRow(key, found.Value)

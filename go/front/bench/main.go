@@ -287,8 +287,8 @@ func oneRound(w work, callers []caller, length time.Duration) (round, error) {
 	return round{float64(len(sorted)*w.calls) / spent.Seconds(), sorted}, nil
 }
 
-// start starts a program, and waits at least 5 seconds until its socket takes a connection. The
-// caller must kill the program.
+// start starts a program, and waits until its socket takes a connection. After about 5 seconds it
+// kills the program and fails. The caller must kill a program that was started.
 func start(socket, program string, words ...string) (*exec.Cmd, error) {
 	command := exec.Command(program, words...)
 	command.Stderr = os.Stderr

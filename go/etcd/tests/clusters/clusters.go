@@ -33,7 +33,7 @@ type Member struct {
 type Cluster struct {
 	Members []*Member
 	scheme  string
-	// Args are the first arguments of each etcdctl, such as a user.
+	// Args are arguments of each etcdctl, before its command, such as --user.
 	Args []string
 }
 
@@ -96,7 +96,7 @@ func FreePorts(t *testing.T, count int) (addresses []string) {
 	return addresses
 }
 
-// StartAll starts all members.
+// StartAll starts all members, and does not wait until they answer.
 func (c *Cluster) StartAll(t *testing.T) {
 	t.Helper()
 	for _, m := range c.Members {
@@ -104,7 +104,8 @@ func (c *Cluster) StartAll(t *testing.T) {
 	}
 }
 
-// Start starts a member on its data.
+// Start starts a member with the data of its earlier run, if there was one. It does not wait until
+// the member answers.
 func (m *Member) Start(t *testing.T) {
 	t.Helper()
 	command := exec.Command("etcd", m.args...)
@@ -186,7 +187,7 @@ func (c *Cluster) Try(args ...string) error {
 	return err
 }
 
-// Type runs etcdctl with text on its standard input.
+// Type runs etcdctl with text on its standard input, for example a password.
 func (c *Cluster) Type(t *testing.T, text string, args ...string) {
 	t.Helper()
 	if _, err := ctl(append(append([]string{"--endpoints", c.Endpoints()}, c.Args...), args...), text); err != nil {
@@ -214,7 +215,7 @@ func ctl(args []string, stdin string) (string, error) {
 	return stdout.String(), nil
 }
 
-// Leader returns the member that leads.
+// Leader waits until the cluster has a leader, and returns this member.
 func (c *Cluster) Leader(t *testing.T) *Member {
 	t.Helper()
 	client := c.Client(t)

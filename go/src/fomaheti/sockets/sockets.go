@@ -31,9 +31,8 @@ type Socket struct {
 	close sync.Once
 }
 
-// ListenForGroup makes a socket. Without a group, which is an empty text, only its owner may
-// connect (mode 0600). Otherwise the owner and the group may connect (mode 0660). The group is a
-// name or a number.
+// ListenForGroup makes a socket. If group is empty, only the owner of the socket may connect (mode
+// 0600). Otherwise group is the name or number of a group that may connect too (mode 0660).
 func ListenForGroup(path, group string) (*Socket, error) {
 	number, err := groupNumber(group)
 	if err != nil {
