@@ -75,7 +75,7 @@ func TestListing(t *testing.T) {
 	}
 }
 
-// An incomplete listing changes no series, and is logged.
+// A listing that fails keeps the sums of the listing before it.
 func TestListingThatFails(t *testing.T) {
 	l, _ := paging(t, map[string]string{"": entry1 + "120131"})
 	before := &listing{volumes: 7}
@@ -152,8 +152,8 @@ func TestPaceOfListings(t *testing.T) {
 	<-ended
 }
 
-// The series of each pool and node of the configuration. Before the first listing there are only
-// their sizes and limits.
+// Collect reports the series of each pool and node of the configuration. Before the first listing
+// it reports only their sizes and limits.
 func TestMetricsOfListings(t *testing.T) {
 	l, _ := paging(t, map[string]string{"": entry1 + entry2 + entry3})
 	sizes := `
@@ -186,7 +186,8 @@ csid_front_pool_volumes{pool="p3"} 0
 `)
 }
 
-// wantsMetrics compares the lines of all series, in any order.
+// wantsMetrics compares the lines of all series that listings report with the wanted lines, in any
+// order.
 func wantsMetrics(t *testing.T, l *listings, want string) {
 	t.Helper()
 	registry := prometheus.NewRegistry()

@@ -67,7 +67,7 @@ func TestMessagesThatAreLate(t *testing.T) {
 	}
 }
 
-// A receiver is kept for the next message, and does not keep the last one. If enough receivers are
+// A receiver is kept for a later message, without its last message. If maxReceived receivers are
 // kept, a further one ends.
 func TestReceiversThatAreKept(t *testing.T) {
 	m := newMessages(10)
