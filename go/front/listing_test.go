@@ -30,7 +30,7 @@ var room = &configuration{[]pool{{"p1", 10485760, nil}, {"p2", 4194304, nil}, {"
 	[]node{{"n1", 2}, {"n3", 4}}}
 
 // paging returns listings of a csid that answers ListVolumes with these pages, in hexadecimal, by
-// the message that asks for each. The channel gets the calls.
+// the message that asks for each. The channel receives the path and the message of each call.
 func paging(t *testing.T, pages map[string]string) (*listings, chan string) {
 	t.Helper()
 	asked := make(chan string, 99)
@@ -54,7 +54,8 @@ func paging(t *testing.T, pages map[string]string) (*listings, chan string) {
 	return l, asked
 }
 
-// A listing adds up all pages, up to the last one, whose token is empty.
+// A listing adds up all pages up to the last one, whose token is empty, and pauses between two
+// pages.
 func TestListing(t *testing.T) {
 	l, asked := paging(t, map[string]string{"": entry1 + "120131", "\x12\x011": entry2 + "120132", "\x12\x012": entry3})
 	l.pagePause = 20 * time.Millisecond

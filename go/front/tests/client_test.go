@@ -34,7 +34,7 @@ func (bytesCodec) Unmarshal(data []byte, v interface{}) error { *v.(*[]byte) = d
 func (bytesCodec) Name() string                               { return "proto" }
 func (bytesCodec) String() string                             { return "bytes" }
 
-// answer is the result of a call: the body in hexadecimal, or a code and a text.
+// answer is the result of a call: OK and the body in hexadecimal, or another code and a text.
 type answer struct {
 	code codes.Code
 	text string
@@ -65,7 +65,7 @@ func newClient(t *testing.T, socket string) *client {
 	return &client{conn}
 }
 
-// send makes a call under a context.
+// send makes a call with a message as bytes. The context can end the call.
 func (c *client) send(ctx context.Context, path string, message []byte) answer {
 	var body []byte
 	if err := c.Invoke(ctx, path, message, &body); err != nil {
@@ -103,7 +103,7 @@ func (c *client) isLost(t *testing.T, path, message string) {
 
 var fromHex = fixtures.FromHex
 
-// soon returns a context that ends after this time.
+// soon returns a context that ends after this length of time.
 func soon(t *testing.T, length time.Duration) context.Context {
 	t.Helper()
 	ctx, cancel := context.WithTimeout(context.Background(), length)

@@ -108,7 +108,8 @@ func TestControlSocketByClient(t *testing.T) {
 	}
 }
 
-// A call of the control socket waits for other calls, and calls of gRPC wait for it.
+// A call of the control socket waits while csid works on a call of gRPC. Both go over the same
+// connection to csid.
 func TestTurnOfControl(t *testing.T) {
 	t.Parallel()
 	let := make(chan struct{})

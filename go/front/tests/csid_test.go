@@ -116,7 +116,8 @@ name = "p1"
 bytes = 1099511627776
 `
 
-// create creates a volume with a name of fewer than 128 bytes, and returns its id.
+// create asks for a volume with a name of fewer than 128 bytes. It returns the volume's id, or ""
+// if the call was not answered OK, and the answer.
 func create(ctx context.Context, front *client, name string) (string, answer) {
 	message := append([]byte{0x0a, byte(len(name))}, name...)
 	message = append(message, 0x1a, 6, 0x0a, 0, 0x1a, 2, 8, 1)
@@ -215,7 +216,8 @@ func TestConcurrentCallers(t *testing.T) {
 }
 
 // createThrough creates volumes while csid is killed and started again several times. If the
-// outcome of a call is open, its caller repeats it. No other error may occur.
+// outcome of a call is open, its caller repeats the call. No other error may occur. It returns the
+// volumes that were answered.
 func createThrough(t *testing.T, csid *processes.Server, socket string) *book {
 	const callers, names, kills = 4, 150, 3
 	told, lost, made := &book{}, int32(0), int32(0)
@@ -362,8 +364,8 @@ func TestCsidThatIsAway(t *testing.T) {
 	front.isLost(t, probe, "")
 }
 
-// After ten thousand calls, the front has no more memory and no more open files than after two
-// thousand.
+// After ten thousand more calls, the front and csid have no more open files, and at most 4 MiB more
+// memory.
 func TestTenThousandCalls(t *testing.T) {
 	t.Parallel()
 	csid := processes.StartCsid(t)

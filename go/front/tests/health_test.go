@@ -60,7 +60,7 @@ func TestHealth(t *testing.T) {
 	}
 }
 
-// If csid hangs, Check answers NOT_SERVING within a short time, but not before 5 seconds.
+// If csid hangs, Check waits 5 seconds for a Probe, and then answers NOT_SERVING.
 func TestHealthWhileCsidStandsStill(t *testing.T) {
 	t.Parallel()
 	csid := startFake(t, step{mute: true})

@@ -225,8 +225,9 @@ func TestCallsWithoutAMessageThatComeAgain(t *testing.T) {
 	for i := 0; i < probes; i++ {
 		front.wants(t, probe, "", ok(ready))
 	}
-	// Each probe needs one place, and each second without a message empties 16. If places went to
-	// calls in their order, a probe would wait for a thousand calls.
+	// Each probe needs one place, and after each second without a message 16 calls give up their
+	// places. If places went to calls in the order of their arrival, a probe would wait for a
+	// thousand calls.
 	if count := ended() - before; count >= clients*calls {
 		t.Errorf("%d calls ended before %d probes were answered", count, probes)
 	}
@@ -319,7 +320,7 @@ func TestManyLongHeaders(t *testing.T) {
 	csid.sees(t, probe+" ")
 }
 
-// speak makes a connection, and returns it with a framer of HTTP/2.
+// speak makes a connection, begins HTTP/2 on it, and returns it with a framer.
 func speak(t *testing.T, socket string) (net.Conn, *http2.Framer) {
 	t.Helper()
 	conn, err := net.Dial("unix", socket)

@@ -88,7 +88,8 @@ func (n *nodePlugin) called(t *testing.T, count int) {
 	processes.GoesOn(t, "calls at the node plugin", count, func() int { return len(n.seen()) })
 }
 
-// replies answers each call with a body, or refuses it.
+// replies returns a function that gives each call the same answer: the body of want, or its code
+// and text.
 func replies(t *testing.T, want answer) respond {
 	t.Helper()
 	body := fromHex(t, want.body)
@@ -253,7 +254,8 @@ func TestNodeCallThatIsGivenUp(t *testing.T) {
 	}
 }
 
-// isAway makes a call that does not reach the node plugin, and checks that it is refused at once.
+// isAway makes a call of the Node service while the node plugin is away, and checks that it is
+// refused at once.
 func isAway(t *testing.T, front *client) {
 	t.Helper()
 	begin := time.Now()
@@ -302,7 +304,7 @@ func TestNodePluginThatEndsInACall(t *testing.T) {
 	next.sees(t)
 }
 
-// mute returns the path of a socket on which no call is answered.
+// mute returns the path of a listening socket whose connections are never accepted.
 func mute(t *testing.T) string {
 	t.Helper()
 	socket := nodeSocket(t)
@@ -569,7 +571,8 @@ func TestNodeWhileTheFrontStandsBy(t *testing.T) {
 	}
 }
 
-// A call that runs at the node plugin may go on for the grace when the front gets a signal to end.
+// When the front gets a signal to end, a call that runs at the node plugin may go on for the time
+// of --grace.
 func TestNodeCallHasTheGrace(t *testing.T) {
 	t.Parallel()
 	let, came := make(chan struct{}), make(chan answer, 1)

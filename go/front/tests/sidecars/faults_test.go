@@ -199,7 +199,7 @@ func TestTwoProvisioners(t *testing.T) {
 }
 
 // cancelEach begins a create for each claim, and cancels it within a few milliseconds. It returns
-// how many calls were answered before that.
+// how many calls were answered before they were cancelled.
 func (k *cluster) cancelEach(t *testing.T, claims []claim, random *rand.Rand) (answered int) {
 	t.Helper()
 	for i, c := range claims {

@@ -102,7 +102,8 @@ func startSidecar(t *testing.T, socket string) *sidecar {
 	}
 }
 
-// comeUp runs the start of a sidecar. It returns the error with which the sidecar ends.
+// comeUp runs the start of a sidecar. If the start fails, it returns the error, with which the
+// sidecar ends.
 func comeUp(t *testing.T, socket string) (*sidecar, error) {
 	t.Helper()
 	conn, err := grpc.Dial("unix:"+socket, grpc.WithInsecure(), grpc.WithBlock(), grpc.WithTimeout(patience))
@@ -176,8 +177,8 @@ func (s *sidecar) capabilities(path string) (map[int32]bool, error) {
 	return set, nil
 }
 
-// isFinal reports whether a call with this error has ended in the driver too. After other errors
-// the call may still run there.
+// isFinal reports whether the driver has ended a call with this error for good. After any other
+// error the call may still run in the driver.
 func isFinal(err error) bool {
 	state, is := status.FromError(err)
 	if !is {
