@@ -113,8 +113,8 @@ func (s *tokenServer) Txn(ctx context.Context, request *pb.TxnRequest) (*pb.TxnR
 	return s.failingServer.Txn(ctx, request)
 }
 
-// A user gets a token at the start, and another one if etcd no longer knows it. Then the
-// transaction is made once.
+// A user gets a token when the client is made, and another one if etcd no longer knows this token.
+// Then the transaction is made once. A wrong password is an error of connect.
 func TestLogin(t *testing.T) {
 	server := &tokenServer{}
 	password := filepath.Join(t.TempDir(), "password")

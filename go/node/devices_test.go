@@ -187,7 +187,7 @@ func TestBlockVolume(t *testing.T) {
 	s.run(t, unpublishRow, unstageRow)
 }
 
-// writeDevice writes to the start of a device of 4 MiB.
+// writeDevice checks that a device has 4 MiB, and writes "kept" to its start.
 func writeDevice(t *testing.T, path string) {
 	t.Helper()
 	file, err := os.OpenFile(path, os.O_RDWR|os.O_SYNC, 0)
