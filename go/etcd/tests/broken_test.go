@@ -69,7 +69,7 @@ var brokenRows = []struct{ key, value, want string }{
 	{"\xff", good, `\xff: no row has such a key`},
 }
 
-// putRow puts the value of a row of the plugin.
+// putRow puts a value at a key of the plugin, which is given without the plugin's name.
 func putRow(t *testing.T, client *clientv3.Client, key, value string) {
 	t.Helper()
 	put(t, client, name+"/"+key, value)

@@ -16,7 +16,7 @@ import (
 	"./clusters"
 )
 
-// The status and the output of a program that ends before it serves.
+// A program that ends before it serves has this exit status and this output.
 func TestArguments(t *testing.T) {
 	t.Parallel()
 	folder := processes.Folder(t)
@@ -72,8 +72,8 @@ func TestArguments(t *testing.T) {
 	}
 }
 
-// Only their user may use the socket and the file of the revision, whatever the umask is. Both
-// replace the files of an earlier process.
+// Only their user may use the socket and the file of the revision, also with umask 0. A later
+// process replaces both.
 func TestModes(t *testing.T) {
 	t.Parallel()
 	cluster := clusters.Start(t, 1)

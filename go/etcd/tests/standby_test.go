@@ -28,8 +28,8 @@ func startPair(t *testing.T, cluster *clusters.Cluster) (first, second program) 
 	return first, second
 }
 
-// waitLeadingSince waits until the program leads after the start of its log, and returns how long
-// that took.
+// waitLeadingSince waits until the log of the program, after its first `before` bytes, reports that
+// it leads. It returns the time of the wait.
 func (p program) waitLeadingSince(t *testing.T, before int) time.Duration {
 	t.Helper()
 	begin := time.Now()
