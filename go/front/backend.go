@@ -24,7 +24,7 @@ const enoughSent = 2
 // backend sends calls to csid over one connection, since csid serves one connection at a time.
 type backend struct {
 	path string
-	// How long csid may take for a reply after the caller has given the call up.
+	// The time that csid may take for the reply to a call after its caller has given the call up.
 	late time.Duration
 	// Guards the fields from here to usual.
 	mutex sync.Mutex
@@ -63,8 +63,8 @@ const (
 	isWaiting stage = iota
 	// The call is sent or being sent, and has no reply yet.
 	isSent
-	// csid refused the call since its store was down. The call will be sent again over the next
-	// connection.
+	// csid refused the call since the store of csid was down. The call will be sent again over the
+	// next connection.
 	isRefused
 	// The call has its outcome, or its caller has given it up.
 	isOver
@@ -194,8 +194,8 @@ func (b *backend) giveUp(c *call) bool {
 	return true
 }
 
-// limit ends a connection if no reply to its first call comes within b.late. The caller has given
-// this call up.
+// limit starts the timer that ends a connection if no reply to the first call on its way comes
+// within b.late. The caller has given this call up.
 func (b *backend) limit(conn *connection) {
 	first := conn.sent[0]
 	conn.late = time.AfterFunc(b.late, func() {
@@ -330,7 +330,7 @@ func (b *backend) dropEnded() {
 }
 
 // fail ends all waiting calls with the reason why a connection could not be made, or why it ended
-// without any reply. If they stayed, each of them would cause another attempt to connect.
+// without any reply. If these calls stayed, each of them would cause another attempt to connect.
 func (b *backend) fail(why error) {
 	b.pace.failed()
 	for b.waiting.Len() > 0 {
@@ -400,8 +400,9 @@ func (b *backend) served(conn *connection) {
 }
 
 // lose forgets a closed connection, after reading a reply failed with err. Calls that csid cannot
-// have carried out are sent again, once, over the next connection, before the calls that wait. The
-// other calls of the connection end without a reply.
+// have carried out are sent again over the next connection, each once, before the calls that wait.
+// The other calls of the connection end with an error. If the connection gave no reply at all, all
+// of its calls and all waiting calls end with an error.
 func (b *backend) lose(conn *connection, err error) {
 	b.mutex.Lock()
 	defer b.mutex.Unlock()

@@ -112,7 +112,8 @@ func (l *limitedListener) closeQuiet() bool {
 	return true
 }
 
-// clientConn is the connection of a client. The methods begin and end do nothing if it is nil.
+// clientConn is the connection of a client. On a nil connection the methods begin and end do
+// nothing.
 type clientConn struct {
 	net.Conn
 	listener *limitedListener

@@ -58,17 +58,17 @@ type connection struct {
 	written   int
 	message   []byte
 	isWriting bool
-	// When csid could begin with the first call on its way: when this call was sent, or when the
-	// reply to the call before it came.
+	// The time from which csid could work on the first call on its way: the time at which this call
+	// was sent, or at which the reply to the call before it came.
 	begun time.Time
 	// The timer that ends the connection. It runs if the caller of the first call on its way has
 	// given the call up.
 	late *time.Timer
-	// Whether a call was sent, whether a reply came, whether csid makes no more changes (after a
-	// status 13), and whether nothing more can be written.
+	// hasSent is true if a call was sent, and hasServed if a reply came. isSpoiled is true if csid
+	// makes no more changes, after a status 13. isBroken is true if nothing more can be written.
 	hasSent, hasServed, isSpoiled, isBroken bool
-	// Why the front ended the connection; nil if it did not, or if only the reader's error shows
-	// the reason.
+	// The reason why the front ended the connection. It is nil if the front did not, or if the
+	// error of reading shows the reason.
 	why error
 }
 
@@ -205,7 +205,7 @@ func (c *connection) write(file uintptr) bool {
 		case err == syscall.EAGAIN:
 			return false
 		case frames.IsClosing(err):
-			// The goroutine that reads fails too, and has the reason.
+			// The goroutine that reads gets an error too, which shows the reason.
 			c.end(nil)
 			return true
 		case err != nil:
@@ -222,11 +222,11 @@ func (c *connection) write(file uintptr) bool {
 }
 
 // isUndone reports whether csid cannot have carried out the call at this place among the calls on
-// their way, after reading a reply failed with err. csid writes each reply before it looks at the
-// next call, so it can have carried out only the first call. It has not carried out the first call
-// either if that is the only one and csid did not read all of it. This is so if a part was not
-// written, or if the socket was reset: a socket is reset if its peer closes it before reading all
-// bytes.
+// their way, after reading a reply failed with err. It returns false if err does not mean that csid
+// closed the connection. csid writes each reply before it looks at the next call, so it can have
+// carried out only the first call. If the first call is the only one, csid has not carried it out
+// either if a part of it was not written, or if the socket was reset: a socket is reset if its peer
+// closes it before reading all bytes.
 func (c *connection) isUndone(place int, err error) bool {
 	if !frames.IsClosing(err) && err != io.ErrUnexpectedEOF {
 		return false

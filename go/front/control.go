@@ -33,7 +33,7 @@ const peerLookTime = 100 * time.Millisecond
 const viaControl = "control"
 
 // control answers calls in the envelope of docs/PROTOCOL.md over a Unix socket, as csid does. With
-// it, users of csictl need not wait until the front leaves its connection to csid. Each connection
+// it, users of csictl need not wait until the front closes its connection to csid. Each connection
 // has one call at a time, which waits like a gRPC call.
 type control struct {
 	handler *handler
@@ -132,9 +132,9 @@ func (c *control) wait() {
 	}
 }
 
-// answerAll answers the calls of a connection, in order, until the connection ends or a call gets
-// no reply. A malformed frame is answered as csid answers it, without csid, and ends the
-// connection.
+// answerAll answers the calls of a connection, one after the other, until the connection ends or a
+// call gets no reply. The front itself answers a malformed frame, with the reply that csid would
+// give, and ends the connection.
 func (c *control) answerAll(conn *clientConn) {
 	requests := frames.NewRequests(conn)
 	for c.awaits(conn) {
@@ -201,8 +201,8 @@ func (c *control) answer(conn *clientConn, request frames.Request) (frames.Reply
 	return answer, err
 }
 
-// senderOf returns who is at the other end of a connection, by SO_PEERCRED (unix(7)); nil if the
-// system does not say.
+// senderOf returns the ids of the process at the other end of a connection, by SO_PEERCRED
+// (unix(7)); nil if the system does not name them.
 func senderOf(conn *net.UnixConn) *sender {
 	raw, err := conn.SyscallConn()
 	if err != nil {
@@ -217,8 +217,8 @@ func senderOf(conn *net.UnixConn) *sender {
 	return &sender{credentials.Uid, credentials.Pid}
 }
 
-// cancelGone checks every peerLookTime if the peer has closed its connection, and then cancels the
-// context. A peer that has closed only its sending half still waits for the reply.
+// cancelGone checks every peerLookTime if the peer has closed its connection. If so, it cancels the
+// context and returns. A peer that has closed only its sending half still waits for the reply.
 func cancelGone(ctx context.Context, cancel func(), conn *net.UnixConn) {
 	looks := time.NewTicker(peerLookTime)
 	defer looks.Stop()

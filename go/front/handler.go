@@ -70,11 +70,13 @@ type handler struct {
 	log      *logger
 	// Holds a value for each health check over HTTP that runs.
 	checks chan struct{}
-	// Whether the health service of gRPC is answered, and whether each change is logged.
+	// hasHealth is true if the health service of gRPC is answered, and logChanges if each change is
+	// logged.
 	hasHealth  bool
 	logChanges bool
-	// Whether the front has --standby, and whether it waits for csid. While it waits, it does not
-	// log refusals of the calls that it makes itself, since it has logged why it waits.
+	// standsBy is true if the front has --standby, and isWaiting while the front waits for csid.
+	// While it waits, it does not log refusals of the calls that it makes itself, since it has
+	// logged why it waits.
 	standsBy  bool
 	isWaiting atomic.Bool
 }

@@ -52,7 +52,7 @@ type listings struct {
 	pagePause, listingPause, failurePause time.Duration
 	mutex                                 sync.Mutex
 	last                                  *listing
-	// Whether a listing has ended, with success or with an error.
+	// True if a listing has ended, with success or with an error.
 	hasListed bool
 }
 
@@ -87,7 +87,7 @@ func pause(ctx context.Context, length time.Duration) {
 
 // list walks over all pages and keeps the sums. If a page is refused or malformed, it returns and
 // logs the reason. It does not log the reason if isAtStart is true, while the front waits for csid,
-// or after the end of the context.
+// or after the end of the context. After maxPages pages it returns an error without a line.
 func (l *listings) list(ctx context.Context) error {
 	begin, listed := time.Now(), &listing{pools: map[string]poolUse{}, attachments: map[string]int{}}
 	token := ""
@@ -120,9 +120,9 @@ func (l *listings) list(ctx context.Context) error {
 	return errors.New("the pages of ListVolumes have no end")
 }
 
-// isAtStart reports whether this error of UNAVAILABLE is the error of the first listing. When a
-// machine boots, csid makes its socket a moment after the front starts. The listing is repeated
-// soon, and logs the reason if csid is still not reachable.
+// isAtStart reports whether err is UNAVAILABLE and no listing has ended yet. When a machine boots,
+// csid makes its socket a moment after the front starts. The listing is repeated soon, and logs the
+// reason if csid is still not reachable.
 func (l *listings) isAtStart(err error) bool {
 	return !l.hasListed && status.Code(err) == codes.Unavailable
 }

@@ -25,7 +25,7 @@ const (
 type logger struct {
 	lines  *log.Logger
 	isJSON bool
-	// Whether a line of text begins with its time and level.
+	// True if a line of text begins with its time and level.
 	isTimed bool
 	// The lines that wait to be written, and the limit of writeFew; both nil in tests.
 	queue *logqueue.Queue
@@ -160,7 +160,7 @@ func (l *logger) changes(socket, path string, asked *change, took time.Duration)
 		status.New(codes.OK, ""), took))
 }
 
-// endedLine returns the line about a call, as text and as JSON.
+// endedLine returns the line about a call, as text, and as an entry for JSON.
 func endedLine(line entry, path string, asked *change, why *status.Status, took time.Duration) (string, entry) {
 	line.endedCall, line.change = &endedCall{shownPath(path), why.Code(), why.Message(), took.Milliseconds()}, asked
 	call := line.endedCall
@@ -168,7 +168,7 @@ func endedLine(line entry, path string, asked *change, why *status.Status, took 
 		asked.words()), line
 }
 
-// malformed logs a malformed frame that came over a socket.
+// malformed logs a malformed frame that came over the socket with this name.
 func (l *logger) malformed(socket string, fault error) {
 	l.writeFew(via(socket)+fault.Error(), entry{Level: logqueue.Warn, Message: "malformed call", Socket: socket,
 		Error: fault.Error()})

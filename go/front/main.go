@@ -76,7 +76,7 @@ func run(asked options, err error, log *logger) int {
 		return badWords
 	}
 	if asked.version {
-		// A package installs the program under a longer name.
+		// The packages of packaging/ install the program under a longer name.
 		fmt.Println(filepath.Base(os.Args[0]), version)
 		return done
 	}

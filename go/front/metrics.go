@@ -171,8 +171,8 @@ func buildInfo() prometheus.Collector {
 	return info
 }
 
-// csidCollector asks csid at each scrape whether it is ready, and how many bytes are free for each
-// topology.
+// csidCollector asks csid at each scrape: by Probe if csid is ready, and by GetCapacity for the
+// free bytes of each topology.
 type csidCollector struct {
 	handler    *handler
 	topologies []topology

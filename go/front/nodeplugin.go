@@ -32,7 +32,7 @@ var (
 
 // nodePlugin is the client of the node plugin, which answers the Node service on another socket.
 // Each call has a new connection, as a kubelet's calls have. Such calls are few, and take longer
-// than connecting. No call meets a connection that ended with the plugin.
+// than connecting. So no call is sent over a connection to a plugin that has ended.
 type nodePlugin struct {
 	path          string
 	calls, probes slots

@@ -34,14 +34,14 @@ type options struct {
 	late      time.Duration
 	waiting   int
 	logFormat string
-	// Whether each change is logged.
+	// True if each change is logged.
 	logChanges bool
 	// The path of the control socket, empty without --control. controlGroup is the name or number
 	// of a group that may connect to it, or empty.
 	control      string
 	controlGroup string
-	// How long csid may give no reply before the front ends. 0 without --standby: then there is no
-	// limit, and the front makes its socket without waiting for csid.
+	// The time for which csid may give no reply before the front ends. It is 0 without --standby:
+	// then there is no limit, and the front makes its socket without waiting for csid.
 	standby time.Duration
 	health  bool
 	// The HOST:PORT for metrics; empty without --metrics.

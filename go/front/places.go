@@ -15,7 +15,8 @@ const maxReceived = 16
 
 // The times after which a message is late while other calls wait for a place. Each message is late
 // after placeTime. While a connection waits that has no place at all, a message is late after
-// shareTime. If no message came for stillTime, all of them are late, since their clients hang.
+// shareTime. If no message came for stillTime, all messages that are being received are late, since
+// their clients hang.
 const (
 	placeTime = 5 * time.Second
 	shareTime = time.Second
@@ -43,8 +44,8 @@ type share struct {
 	queue list.List
 }
 
-// turn is a call that waits for a place. number counts the calls in the order in which they began
-// to wait. The channel came is closed when the call gets its place.
+// turn is a call that waits for a place. number is its position among all calls that have begun to
+// wait, from 1 on. The channel came is closed when the call gets its place.
 type turn struct {
 	number uint64
 	came   chan struct{}

@@ -125,8 +125,9 @@ func (h *handler) probeBoth(ctx context.Context, message []byte) ([]byte, error)
 	return body, nil
 }
 
-// readiness returns why a plugin is not ready, or nil, from the body of its reply to Probe. A
-// plugin whose reply does not have the field `ready` is ready (CSI, "Probe").
+// readiness returns why csid or the node plugin, which who names, is not ready, or nil. body is the
+// body of the reply to Probe. A plugin whose reply does not have the field `ready` is ready (CSI,
+// "Probe").
 func readiness(who string, body []byte) error {
 	wrapped, is, err := lastField(body, 1, protowire.BytesType)
 	if err != nil {
@@ -138,7 +139,8 @@ func readiness(who string, body []byte) error {
 	return readyValue(who, wrapped)
 }
 
-// readyValue returns why a plugin is not ready, or nil, from the field `ready` of its reply.
+// readyValue returns why csid or the node plugin, which who names, is not ready, or nil. wrapped is
+// the field `ready` of the reply to Probe.
 func readyValue(who string, wrapped []byte) error {
 	ready, _ := protowire.ConsumeBytes(wrapped)
 	value, _, err := lastField(ready, 1, protowire.VarintType)

@@ -26,7 +26,8 @@ const lookUpTime = time.Second
 // removal is the result of the look-up before a delete or an unpublish. It is empty for any other
 // call.
 type removal struct {
-	// Whether the call will find nothing to remove. It is false if the look-up does not show this.
+	// True if the call will find nothing to remove. False if it may remove something, or if the
+	// look-up failed.
 	isOfNothing bool
 }
 
@@ -39,7 +40,8 @@ func (r removal) made(asked *change, code codes.Code) *change {
 	return asked
 }
 
-// removalOf looks up the volume of a delete or an unpublish, if changes are logged.
+// removalOf looks up the volume of a delete or an unpublish. For any other call, or if changes are
+// not logged, it asks nothing.
 func (h *handler) removalOf(ctx context.Context, path string, message []byte) removal {
 	if !h.logChanges || path != deleteVolume && path != unpublishVolume {
 		return removal{}

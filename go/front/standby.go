@@ -71,8 +71,8 @@ func (f *front) serveWhileItWaits() int {
 	return f.serve(listener)
 }
 
-// follow waits until csid is ready, and then until it has given no reply for the time limit. Then
-// it begins again. It does not return.
+// follow waits until csid is ready, and then until csid has given no reply for the time limit,
+// again and again. It never returns.
 func (h *handler) follow(limit time.Duration) {
 	for {
 		h.await(context.Background())
