@@ -20,7 +20,7 @@ type malformed string
 // Error returns "etcd's answer is malformed: " and the part that is missing or wrong.
 func (m malformed) Error() string { return "etcd's answer is malformed: " + string(m) }
 
-// checkUnary is an interceptor that checks the answer to a single request.
+// checkUnary is an interceptor that checks the answer to a call with one request and one answer.
 func checkUnary(ctx context.Context, method string, request, reply interface{}, conn *grpc.ClientConn,
 	invoke grpc.UnaryInvoker, options ...grpc.CallOption) error {
 	if err := invoke(ctx, method, request, reply, conn, options...); err != nil {
@@ -42,7 +42,7 @@ func checkStream(ctx context.Context, description *grpc.StreamDesc, conn *grpc.C
 // checkedStream checks each answer that it receives.
 type checkedStream struct{ grpc.ClientStream }
 
-// RecvMsg implements grpc.ClientStream. It refuses a malformed answer.
+// RecvMsg receives the next answer of the stream, and refuses a malformed one.
 func (s checkedStream) RecvMsg(reply interface{}) error {
 	if err := s.ClientStream.RecvMsg(reply); err != nil {
 		return err

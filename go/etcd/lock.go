@@ -133,8 +133,8 @@ func (c *candidate) newTerm(ctx context.Context, end context.CancelFunc, client 
 }
 
 // releaseLeases revokes the leases of earlier terms, so that the next candidate need not wait until
-// they expire. It also deletes their keys: a key that somebody put by hand without the lease would
-// stay for ever. If etcd does not answer, the next campaign tries again.
+// they expire. It also deletes their keys: a key that was put by hand without the lease would stay
+// for ever. If etcd does not answer, the next campaign tries again.
 func (c *candidate) releaseLeases(client *clientv3.Client) {
 	ctx, cancel := context.WithTimeout(context.Background(), c.opts.timeout)
 	defer cancel()
@@ -197,8 +197,8 @@ func (c *candidate) holdLock(t *term) error {
 	return t.endReason()
 }
 
-// reportWaiting writes a line that err is why the program has no lock, and sets the refusal of
-// calls to this reason. It does nothing if err is nil.
+// reportWaiting writes a line with err, the reason why the program has no lock, and sets the
+// refusal of calls to this reason. It does nothing if err is nil.
 func (c *candidate) reportWaiting(err error) {
 	if err != nil {
 		c.reportError(fmt.Sprintf("no lock: %v", err), err)
@@ -222,8 +222,9 @@ func (c *candidate) lead(t *term, queue queue, isLeading bool) bool {
 	return true
 }
 
-// stopLeading makes later calls get the refusal answer. If a term was current, it also closes the
-// connection of csid at once. It writes a line with the reason.
+// stopLeading ends the use of the current term, and sets the refusal of later calls to answer. If
+// there was a term, it also closes the connection of csid at once. It writes a line with the
+// reason.
 func (c *candidate) stopLeading(reason error, answer refusal) {
 	before, _ := c.state.current()
 	c.state.set(nil, answer)

@@ -24,7 +24,7 @@ const prefix = "csid-etcd: "
 type logger struct {
 	out    io.Writer
 	isJSON bool
-	// Whether a line of text begins with its time and level.
+	// True if a line of text begins with its time and level.
 	isTimed bool
 }
 

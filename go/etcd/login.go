@@ -25,8 +25,9 @@ type login struct {
 	token          string
 }
 
-// GetRequestMetadata implements credentials.PerRPCCredentials. It adds no token to a request for a
-// new token: etcd refuses that request if the old token is no longer valid.
+// GetRequestMetadata returns the token as metadata of a call, or nothing if there is no token. A
+// request for a new token gets no token: etcd refuses that request if the old token is no longer
+// valid.
 func (l *login) GetRequestMetadata(_ context.Context, services ...string) (map[string]string, error) {
 	l.mutex.Lock()
 	defer l.mutex.Unlock()

@@ -67,8 +67,8 @@ func run(opts options, err error, lines *logger) int {
 		lines.fails(fmt.Errorf("--revision: %w", err))
 		return exitFailure
 	}
-	// Calls are served in order, so a second processor would only have to be woken at each step of
-	// a call.
+	// Calls are served one at a time, so a second processor would only have to be woken at each
+	// step of a call.
 	if os.Getenv("GOMAXPROCS") == "" {
 		runtime.GOMAXPROCS(1)
 	}

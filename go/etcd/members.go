@@ -28,8 +28,8 @@ type members struct {
 	last certificates
 	// The endpoint of the options for each address that was reached.
 	endpoints map[string]string
-	// By endpoint: the error of the last connection, and the last error in an answer. A successful
-	// call removes both.
+	// By endpoint: unreached has the reason why the last connection failed, and refused has the
+	// error in the last answer. A successful call removes both.
 	unreached, refused map[string]string
 }
 

@@ -151,7 +151,8 @@ func readChange(message []byte) (change, error) {
 	return read, nil
 }
 
-// Encoding. Each field is written in ascending order, even if it is 0 or empty.
+// The functions below encode rows as messages. They write the fields in ascending order, even if a
+// field is 0 or empty.
 
 func appendNumber(message []byte, number protowire.Number, value uint64) []byte {
 	return protowire.AppendVarint(protowire.AppendTag(message, number, protowire.VarintType), value)

@@ -161,8 +161,8 @@ func (opts *options) addOneShotFlags(flags *flag.FlagSet) {
 	flags.BoolVar(&opts.isJSON, "json", false, "list in JSON, with a volume a line")
 }
 
-// oneShotFlags do one thing and end the program. listFlags go with --list. servingFlags go with a
-// program that keeps running and answers csid.
+// oneShotFlags make the program do one thing and end. listFlags go with --list. servingFlags go
+// with a program that keeps running and answers csid.
 var (
 	oneShotFlags = map[string]bool{"new": true, "export": true, "import": true, "list": true}
 	listFlags    = map[string]bool{"plugin": true, "volume": true, "pool": true, "node": true, "json": true}
@@ -170,13 +170,13 @@ var (
 		"existing": true, "log-format": true}
 )
 
-// isOneShot reports whether the program does one thing and ends.
+// isOneShot reports whether a one-shot flag was given: then the program does one thing and ends.
 func (opts options) isOneShot() bool {
 	return opts.isNew || opts.isExport || opts.isImport || opts.isList
 }
 
-// checkOneShot refuses a second one-shot flag, a serving flag next to a one-shot flag (except --id
-// with --list), and a flag of --list without --list.
+// checkOneShot returns an error for a second one-shot flag, a serving flag next to a one-shot flag
+// (except --id with --list), and a flag of --list without --list.
 func checkOneShot(flags *flag.FlagSet) (err error) {
 	var once string
 	flags.Visit(func(f *flag.Flag) {

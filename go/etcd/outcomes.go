@@ -57,7 +57,7 @@ var certainRefusals = map[error]codes.Code{
 }
 
 // gRPC's texts for a message that is too long for this client to send, or for the server to
-// receive. In both cases the server has not looked at it.
+// receive. In both cases the server has not looked at the message.
 const (
 	tooLongToSend = "trying to send message larger than max"
 	tooLongToTake = "grpc: received message larger than max"

@@ -23,7 +23,8 @@ type revisions struct {
 	path     string
 	mutex    sync.Mutex
 	greatest int64
-	// The lower revision, once etcd had one, and the refusal that reports it.
+	// older is the refusal that reports a lower revision of etcd, or nil if none was seen. lower is
+	// this lower revision.
 	lower int64
 	older error
 	// The text in the file.
@@ -111,7 +112,7 @@ func olderRefusal(answered, revision int64) error {
 		"may be missing; --accept-older goes on", revision, answered)
 }
 
-// record notes the revision of an answer to csid.
+// record notes the revision of an answer to csid in greatest, if it is greater.
 func (r *revisions) record(revision int64) {
 	r.mutex.Lock()
 	defer r.mutex.Unlock()

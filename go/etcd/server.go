@@ -13,7 +13,8 @@ import (
 	"fomaheti/frames"
 )
 
-// How long csid may take to read a reply: replyTime, or replacedTime if a newer connection waits.
+// The time that csid may take to read a reply: replyTime, or replacedTime if a newer connection
+// waits.
 const (
 	replyTime    = 10 * time.Second
 	replacedTime = time.Second

@@ -13,7 +13,7 @@ import (
 	"google.golang.org/grpc/codes"
 )
 
-// term is a period in which this program leads. Its calls are served in order.
+// term is a period in which this program leads. Its calls are served one at a time.
 type term struct {
 	client    *clientv3.Client
 	keys      keys
@@ -184,11 +184,11 @@ func (t *term) endReason() error {
 	}
 }
 
-// confirmLead asks etcd whether this program leads. It returns an error if the program does not
-// lead, or if etcd does not answer within the timeout of a request. If it returns nil, the program
-// led at some moment after confirmLead was called. Neither the program's own clock nor a watch can
-// confirm this: if somebody deletes the key or revokes the lease by hand, another program may lead
-// before a watch reports it.
+// confirmLead asks etcd if this program leads. It returns an error if the program does not lead, or
+// if etcd does not answer within the timeout of a request. If it returns nil, the program led at
+// some moment after confirmLead was called. Neither the program's own clock nor a watch can confirm
+// this: if the key is deleted or the lease is revoked by hand, another program may lead before a
+// watch reports it.
 func (t *term) confirmLead(ctx context.Context) error {
 	ctx, cancel := context.WithTimeout(ctx, t.timeout)
 	defer cancel()
@@ -204,7 +204,7 @@ func (t *term) confirmLead(ctx context.Context) error {
 		if unknown, ok := err.(unknownOutcome); ok {
 			err = unknown.err
 		}
-		// An error before the deadline tells more than the deadline itself.
+		// An error from before the deadline says more than the deadline itself.
 		if reason == nil || ctx.Err() == nil {
 			reason = err
 		}
@@ -350,10 +350,10 @@ func (t *term) compareFailure(done *clientv3.TxnResponse, planned plan) error {
 	return refuse("a comparison failed")
 }
 
-// noSpaceOutcome finds out whether etcd made a transaction although it answered that it has no
-// space. The outcome was decided before that answer. So a key that the transaction puts shows it:
-// if its revision is not newer than all revisions seen before, the transaction was not made.
-// Otherwise, or if the transaction also deletes keys, the outcome counts as unknown.
+// noSpaceOutcome finds out if etcd made a transaction although it answered that it has no space.
+// The outcome was decided before that answer. So a key that the transaction puts shows it: if its
+// revision is not newer than all revisions seen before, the transaction was not made. Otherwise, or
+// if the transaction also deletes keys, the outcome counts as unknown.
 func (t *term) noSpaceOutcome(ctx context.Context, planned plan) error {
 	before := t.seen
 	for _, op := range planned.success {

@@ -19,8 +19,8 @@ const (
 )
 
 // The limits of a read in rows. The first read is small; later ones have about the rows of a page,
-// at most maxLimit. For each read etcd visits the keys of all remaining rows, whatever the limit
-// is.
+// at most maxLimit. For each read, even with a small limit, etcd visits the keys of all remaining
+// rows.
 const (
 	firstLimit = 64
 	maxLimit   = 10000
@@ -43,8 +43,8 @@ type walk struct {
 	ahead chan page
 }
 
-// page is the body of a page and the token of the next one (nil for the last page), or the error of
-// reading it.
+// page is the body of a page and the token of the next page (nil after the last page), or the error
+// of reading this page.
 type page struct {
 	body  []byte
 	token []byte
@@ -114,7 +114,7 @@ func (w *walk) deliver(ctx context.Context, p page) ([]byte, error) {
 	return p.body, p.err
 }
 
-// waitAhead returns when no page is being read.
+// waitAhead waits until the page that is being read ahead is read, if there is one.
 func (w *walk) waitAhead() {
 	if w != nil && w.ahead != nil {
 		w.ahead <- <-w.ahead

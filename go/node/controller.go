@@ -16,7 +16,7 @@ import (
 const (
 	// The time limit for an answer of the controller.
 	controllerTime = 10 * time.Second
-	// How long a call waits for a missing controller, which may be starting.
+	// The time for which a call waits for a missing controller, which may be starting.
 	startTime = 2 * time.Second
 )
 

@@ -91,7 +91,7 @@ type nodeCapability struct {
 	RPC *capabilityType `protobuf:"bytes,1,opt,name=rpc,proto3" json:"rpc,omitempty"`
 }
 
-// capability is a use of a volume. Exactly one of Block and Mount is set.
+// capability is a use of a volume. In a valid one, exactly one of Block and Mount is set.
 type capability struct {
 	Block      *blockAccess `protobuf:"bytes,1,opt,name=block,proto3" json:"block,omitempty"`
 	Mount      *mountAccess `protobuf:"bytes,2,opt,name=mount,proto3" json:"mount,omitempty"`

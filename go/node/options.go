@@ -16,8 +16,8 @@ func refuse(format string, args ...interface{}) error {
 }
 
 // serveOptions are the options of `serve`: the sockets of the node plugin and of the front, the
-// name of the plugin, what is reported about this node, the folder of each pool, and how volumes
-// are stored.
+// name of the plugin, the reply to NodeGetInfo, the folder of each pool, and the storage of
+// volumes.
 type serveOptions struct {
 	listen     string
 	controller string

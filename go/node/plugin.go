@@ -45,8 +45,8 @@ type storage interface {
 	unstage(data, staging string) error
 	publish(data, staging, target string, use *capability, readOnly bool) error
 	unpublish(data, target string) error
-	// usage returns the used and available bytes of a volume at this path, or nil if the volume is
-	// not there.
+	// usage returns the total bytes of a volume at this path, and for a file system also the used
+	// and available bytes. It returns nil if the volume is not there.
 	usage(data, path string) (*usage, error)
 }
 

@@ -44,9 +44,9 @@ type repeating struct {
 	*grpc.ClientConn
 	number   int
 	deadline time.Duration
-	// When its last successful call ended, in nanoseconds since 1970.
+	// The time at which its last successful call ended, in nanoseconds since 1970.
 	served int64
-	// The number of successful calls, and the number of failed ones.
+	// The number of successful calls, and the number of failed attempts.
 	done, lost int64
 }
 

@@ -82,7 +82,7 @@ func New(t *testing.T, count int, settings Settings) *Cluster {
 	return c
 }
 
-// FreePorts returns unused addresses of loopback.
+// FreePorts returns count unused addresses of loopback, as HOST:PORT.
 func FreePorts(t *testing.T, count int) (addresses []string) {
 	t.Helper()
 	for i := 0; i < count; i++ {
@@ -116,7 +116,8 @@ func (m *Member) Start(t *testing.T) {
 // Kill sends SIGKILL to a member, and waits for its end.
 func (m *Member) Kill() { m.Current.Kill() }
 
-// Restore replaces the data of a stopped member by a snapshot. The cluster must have one member.
+// Restore replaces the data of a stopped member by the data of a snapshot file. The cluster must
+// have one member.
 func (m *Member) Restore(t *testing.T, snapshot string) {
 	t.Helper()
 	if err := os.RemoveAll(filepath.Join(m.folder, "data")); err != nil {
@@ -162,7 +163,7 @@ func (c *Cluster) WaitReady(t *testing.T) {
 	})
 }
 
-// Client returns a client of the cluster, without TLS. The client is closed at the end of the test.
+// Client returns a client of a cluster without TLS. The client is closed at the end of the test.
 func (c *Cluster) Client(t *testing.T) *clientv3.Client {
 	t.Helper()
 	client, err := clientv3.New(clientv3.Config{Endpoints: strings.Split(c.Endpoints(), ","),
@@ -175,7 +176,7 @@ func (c *Cluster) Client(t *testing.T) *clientv3.Client {
 	return client
 }
 
-// Ctl runs etcdctl and returns its standard output.
+// Ctl runs etcdctl and returns its standard output. If etcdctl fails, the test fails.
 func (c *Cluster) Ctl(t *testing.T, args ...string) string {
 	t.Helper()
 	return run(t, append(append([]string{"--endpoints", c.Endpoints()}, c.Args...), args...))

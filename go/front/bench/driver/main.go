@@ -1,7 +1,7 @@
 //go:build cgo
 
-// driver is a CSI controller as it is usually written in Go: grpc-go with generated messages, over
-// a file of SQLite by database/sql. It answers the calls that bench/front makes. Like csid, it
+// driver is a CSI controller of the usual kind in Go: grpc-go with generated messages, over a file
+// of SQLite by database/sql. It answers the calls that bench/front makes. Like csid, it
 // synchronises a change to disk before it answers OK.
 //
 // usage: driver SOCKET FILE
