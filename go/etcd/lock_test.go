@@ -53,7 +53,7 @@ type queueServer struct {
 	requests int
 	state    *leadership
 	end      context.CancelFunc
-	// Whether this program led at each read.
+	// For each read, true if this program led.
 	led []bool
 }
 

@@ -18,8 +18,9 @@ import (
 	"google.golang.org/grpc/status"
 )
 
-// A line names the members that caused an error: those that refused, those that were unreachable,
-// or all of them if none answered. It names none for an error that does not come from etcd.
+// A line names the members that caused an error: the members that refused, the members that were
+// unreachable, or all members if none answered. It names none for an error that does not come from
+// etcd.
 func TestMembersOf(t *testing.T) {
 	m := newMembers(options{endpoints: []string{"a:1", "b:2", "c:3"}}, t.Logf)
 	m.refused["b:2"] = "etcdserver: permission denied"

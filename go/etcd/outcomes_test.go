@@ -103,8 +103,8 @@ func serveEtcd(t *testing.T, kv pb.KVServer) (address string) {
 	return listener.Addr().String()
 }
 
-// startServer starts a server, and returns a client for which the server stands at as many
-// endpoints as members says.
+// startServer starts a server, and returns a client. The client has as many endpoints as members
+// says, and each is this server.
 func startServer(t *testing.T, kv pb.KVServer, members int, options ...grpc.DialOption) *clientv3.Client {
 	t.Helper()
 	address := serveEtcd(t, kv)

@@ -192,7 +192,7 @@ func call(conn net.Conn, path string, message []byte) (frames.Reply, error) {
 }
 
 // A change waits for rows that are read ahead, even for another connection: the calls of a term are
-// served in order.
+// served one at a time.
 func TestReadAhead(t *testing.T) {
 	for _, c := range []struct {
 		name      string

@@ -33,8 +33,8 @@ type scriptedServer struct {
 	compared []string
 }
 
-// answer is the answer to a transaction: an error, or whether it was made, its revision and its
-// reads.
+// answer is the answer to a transaction: an error, or succeeded, which is true if all comparisons
+// held, with the revision and the rows of the reads.
 type answer struct {
 	err       error
 	succeeded bool
@@ -174,7 +174,7 @@ func outcome(err error) (codes.Code, string) {
 
 // If etcd answers that it has no space, a change is refused only if a read shows that its key is
 // not newer than revision 100. This is the greatest revision seen before. A deleted key leaves no
-// trace that would show whether the change was made.
+// trace that would show if the change was made.
 func TestNoSpaceOutcome(t *testing.T) {
 	puts, deletes := &attach{attachment{7, "n", nil, false}}, &detach{7, "n"}
 	cases := []struct {
@@ -481,8 +481,8 @@ func (s *lockServer) Watch(stream pb.Watch_WatchServer) error {
 	return nil
 }
 
-// etcd is asked each time whether a program leads. If it does not answer, it is asked again, for as
-// long as a request may take.
+// confirmLead asks etcd each time. If etcd does not answer, confirmLead asks again, for as long as
+// a request may take.
 func TestConfirmLead(t *testing.T) {
 	failed := status.Error(codes.Internal, "any")
 	const (

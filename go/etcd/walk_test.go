@@ -214,7 +214,7 @@ func TestTokens(t *testing.T) {
 	if err := read(&later, first); err != errToken {
 		t.Errorf("in a later term: got error %v, want %v", err, errToken)
 	}
-	// The second page was read ahead. The third one is compacted.
+	// The second page was read ahead. The revision of the third page is compacted.
 	server.isCompacted = true
 	if err := read(leading, first); err != nil {
 		t.Errorf("the second page: got error %v", err)

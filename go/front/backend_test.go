@@ -296,7 +296,7 @@ func TestEndedContextOverAConnection(t *testing.T) {
 }
 
 // If no reply to a call that was given up comes within the time of --late, the connection ends, and
-// a call that waits gets this error. A later call gets a new connection.
+// a call that waits gets an error that says so. A later call gets a new connection.
 func TestLateReplyThatNeverComes(t *testing.T) {
 	isSilent := true
 	path, connections := csid(t, func(conn net.Conn) {

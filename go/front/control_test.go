@@ -130,8 +130,8 @@ func TestManyControlConnections(t *testing.T) {
 	}
 }
 
-// A peer without a complete call is closed to make room for another peer. A peer whose call runs is
-// not.
+// A peer without a complete call is closed to make room for another peer. A peer whose call runs
+// stays.
 func TestSilentControlPeers(t *testing.T) {
 	path, let := holding(t)
 	c, socket, _ := controlled(t, path)
@@ -295,7 +295,7 @@ func holding(t *testing.T) (string, chan struct{}) {
 	return path, let
 }
 
-// At the end a running call is answered, and an incomplete call is not.
+// After stop a running call is answered, and an incomplete call is not.
 func TestEndOfControl(t *testing.T) {
 	path, let := holding(t)
 	c, socket, _ := controlled(t, path)

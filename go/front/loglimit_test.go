@@ -69,7 +69,7 @@ func TestReportOfLinesThatWereLeftOut(t *testing.T) {
 	wantsCounts(t, reports, map[string]uint64{"a": 2})
 }
 
-// Without a limit each line passes, as in tests.
+// If the limit is nil, as in tests, each line passes.
 func TestNoLimitOfLines(t *testing.T) {
 	var l *lineLimit
 	if count := passed(l, 20, "a", time.Now()); count != 20 {

@@ -108,7 +108,7 @@ type caller struct {
 
 func newCaller(b *backend) *caller { return &caller{b, make(chan result, 100)} }
 
-// begins makes a call, and waits until it is among those that wait or are on their way.
+// begins makes a call, and waits until the call waits to be sent or is on its way.
 func (c *caller) begins(t *testing.T, ctx context.Context, number uint32) {
 	t.Helper()
 	waiting, sent := count(c.b)
@@ -200,7 +200,8 @@ func sendsBefore(t *testing.T, count int, contexts map[uint32]context.Context,
 	return s
 }
 
-// concurrentCsid plays a csid that serves several connections at once. Their numbers begin at 1.
+// concurrentCsid plays a csid that serves several connections at once. serve gets each connection
+// with its number, from 1 on.
 func concurrentCsid(t *testing.T, serve func(net.Conn, int32)) (path string, connections *int32) {
 	t.Helper()
 	listener, path := listening(t)
@@ -363,8 +364,9 @@ func TestCallsAfterARefusedChange(t *testing.T) {
 	}
 }
 
-// refusedChange says which of 16 calls is refused, whether the call after it needs no store, and
-// after how many further replies csid ends the connection (ends). If ends is 0, the front ends it.
+// refusedChange describes a csid that refuses one of 16 calls, with the number refused. readsNext
+// is true if the call after it changes nothing. ends is the number of further replies after which
+// csid ends the connection. If ends is 0, the front ends the connection.
 type refusedChange struct {
 	name      string
 	refused   uint32
@@ -430,8 +432,8 @@ func (c refusedChange) check(t *testing.T, s *onTheirWay) {
 func TestCallIsSentAgainOnce(t *testing.T) {
 	rows := []struct {
 		name string
-		// What csid answers to the third and the fourth call over the second connection, before it
-		// closes this connection. want checks the outcome of the fourth call.
+		// The replies of csid to the third and the fourth call over the second connection, before
+		// it closes this connection; nil for no reply. want checks the outcome of the fourth call.
 		third, fourth []byte
 		want          func(result) bool
 	}{
@@ -548,8 +550,8 @@ func TestDeadlineOnTheWay(t *testing.T) {
 	s.all(t, 15)
 }
 
-// A call whose caller gave up is not sent again, whether csid left it unread or answered that its
-// store is down.
+// A call whose caller gave up is not sent again, also if csid left the call unread or answered that
+// its store is down.
 func TestCallerThatGaveUpIsNotSentAgain(t *testing.T) {
 	contexts, giveUp := givesUp(t, 2, 5)
 	s := sends(t, 6, contexts)
@@ -575,7 +577,7 @@ func TestCallerThatGaveUpIsNotSentAgain(t *testing.T) {
 	}
 }
 
-// Calls beyond the greatest number on their way, or the most bytes, wait.
+// If the greatest number of calls is on their way, or the most bytes of frames, further calls wait.
 func TestLimitsOfCallsOnTheirWay(t *testing.T) {
 	rows := []struct {
 		name        string
@@ -721,7 +723,7 @@ func TestRepliesThatEndAConnection(t *testing.T) {
 }
 
 // If the first call was given up and its reply is late, the connection ends. The calls after it are
-// sent again, except those that were given up.
+// sent again, except the calls that were given up.
 func TestLateReplyBeforeOtherCalls(t *testing.T) {
 	contexts, giveUp := givesUp(t, 1, 3)
 	s := sends(t, 4, contexts)
@@ -801,8 +803,9 @@ func TestGivenUpAfterACallThatIsAnswered(t *testing.T) {
 	}
 }
 
-// endsAtRandom is a csid that serves one connection at a time, and ends each at a random place:
-// between two calls, within one, before, within or after a reply, or after it refused a change.
+// endsAtRandom starts a csid, and returns the path of its socket. The csid serves one connection at
+// a time, and ends each at a random point: between two calls, within a call, before, within or
+// after a reply, or after it refused a change.
 func endsAtRandom(t *testing.T, made *table, seed int64) string {
 	t.Helper()
 	source := rand.New(rand.NewSource(seed))
@@ -843,7 +846,8 @@ func endsAtRandom(t *testing.T, made *table, seed int64) string {
 	return path
 }
 
-// How long calls are made while connections end at random. FRONT_STRESS sets another time.
+// The time for which calls are made while connections end at random. FRONT_STRESS sets another
+// time.
 var stressTime = func() time.Duration {
 	if asked, err := time.ParseDuration(os.Getenv("FRONT_STRESS")); err == nil {
 		return asked
@@ -906,8 +910,8 @@ func (t *table) areOnce(test *testing.T, answered *sync.Map) {
 }
 
 // With many callers, and connections that end at random places, an answered change is made once,
-// and any other change at most once. The changes of one caller are made in its order, including the
-// calls that it gave up.
+// and any other change at most once. The changes of one caller are made in the order of its calls,
+// including the calls that it gave up.
 func TestManyCallersOverConnectionsThatEnd(t *testing.T) {
 	seed, until := time.Now().UnixNano(), time.Now().Add(stressTime)
 	t.Logf("seed %d", seed)

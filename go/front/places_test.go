@@ -12,7 +12,8 @@ import (
 	"google.golang.org/grpc/status"
 )
 
-// fill takes all places for a connection, and waits makes a call of it wait for one.
+// fill takes all free places for a connection, and waits makes a call of the connection wait for a
+// place.
 func fill(p *places, client *clientConn) {
 	for p.free > 0 {
 		p.begin(client)

@@ -119,7 +119,7 @@ func (s *session) run(t *testing.T, rows ...row) {
 	}
 }
 
-// Parts of messages.
+// Names of sockets, parts of messages, and expected outputs.
 const (
 	controllerSocket = "csi.sock"
 	nodeSocket       = "node.sock"

@@ -315,7 +315,7 @@ func TestImportStopped(t *testing.T) {
 		"csid-etcd: --import: volumes/00000000000000000001: it was removed in the meantime; ", count)
 	cluster.Ctl(t, "del", "--prefix", name+"/")
 
-	// A row that somebody puts in the meantime is not overwritten.
+	// A row that is put by hand in the meantime is not overwritten.
 	relay, p = startImport(t, cluster, lines)
 	put(t, client, name+"/volumes/00000000000000030000", "x")
 	relay.resume()

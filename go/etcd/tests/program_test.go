@@ -118,7 +118,7 @@ func TestBeforeEtcd(t *testing.T) {
 	l.wantReply(t, readPath, "", codes.OK, "2200")
 }
 
-// Before etcd's first answer each call is refused, even the question whether the program leads.
+// Before etcd's first answer each call is refused, even Lead, the question if the program leads.
 func TestBeforeTheFirstAnswer(t *testing.T) {
 	t.Parallel()
 	// An etcd that accepts connections and answers nothing.

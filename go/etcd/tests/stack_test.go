@@ -203,7 +203,7 @@ func (f *fleet) note(method string, why *status.Status, begin time.Time) {
 	}
 }
 
-// servedSince reports whether a call that was sent after a time was answered OK.
+// servedSince reports whether a call that was sent after this time was answered OK.
 func (f *fleet) servedSince(since time.Time) bool {
 	f.mutex.Lock()
 	defer f.mutex.Unlock()

@@ -212,7 +212,7 @@ func TestEnd(t *testing.T) {
 	}
 }
 
-// If somebody deletes the key of a program, the program loses the lock, and gets it again with
+// If the key of a program is deleted by hand, the program loses the lock, and gets it again with
 // another key. The value of the key is --id.
 func TestLockTakenAway(t *testing.T) {
 	t.Parallel()

@@ -93,7 +93,8 @@ func (c *client) wants(t *testing.T, path, message string, want answer) {
 	}
 }
 
-// isLost makes a call, and checks that its outcome is open: an orchestrator must repeat the call.
+// isLost makes a call, and checks that the answer is UNAVAILABLE because of csid: the outcome is
+// open, and an orchestrator must repeat the call.
 func (c *client) isLost(t *testing.T, path, message string) {
 	t.Helper()
 	if got := c.call(t, path, message); got.code != codes.Unavailable || !strings.HasPrefix(got.text, "csid: ") {

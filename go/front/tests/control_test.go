@@ -17,7 +17,8 @@ import (
 	"fomaheti/frames"
 )
 
-// controlled starts a front with a control socket, and returns the path of the control socket.
+// controlled starts a front with a control socket. It returns the front and the path of the control
+// socket.
 func controlled(t *testing.T, csid string, words ...string) (*processes.Process, string) {
 	t.Helper()
 	path := filepath.Join(processes.Folder(t), "control.sock")

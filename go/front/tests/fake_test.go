@@ -14,9 +14,9 @@ import (
 	"./processes"
 )
 
-// step is what a fake csid does with one frame that it read.
+// step has the reaction of a fake csid to one frame that it has read.
 type step struct {
-	// Waits until this is closed, before anything else.
+	// The fake csid first waits until this is closed, if it is not nil.
 	wait <-chan struct{}
 	// Writes these bytes.
 	write []byte

@@ -181,7 +181,7 @@ func TestMessagesThatNeverCome(t *testing.T) {
 // silentClient makes calls that send no message. When one of them ends, it makes a new one.
 type silentClient struct {
 	front *client
-	// The number of calls that have begun, and of those that the front has ended.
+	// The number of calls that have begun, and the number of calls that the front has ended.
 	begun, ended int32
 }
 

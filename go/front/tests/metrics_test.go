@@ -198,7 +198,7 @@ func TestMetricsOfTheProcess(t *testing.T) {
 	}
 }
 
-// However many unknown methods a client calls, they add only one series for each code.
+// Calls of many unknown methods add only one series for each code.
 func TestMetricsOfInventedMethods(t *testing.T) {
 	t.Parallel()
 	process, monitor := watched(t, startFake(t).socket)
@@ -399,8 +399,8 @@ func TestMetricsOfPools(t *testing.T) {
 	})
 }
 
-// A front that starts finds 205 volumes on three pages. It reports what they take of a pool of 1
-// TiB, and one attachment of a node.
+// A front that starts finds 205 volumes on three pages. It reports the bytes that they take of a
+// pool of 1 TiB, and one attachment of a node.
 func TestMetricsOfListings(t *testing.T) {
 	t.Parallel()
 	const volumes = 205

@@ -25,7 +25,7 @@ import (
 
 const nodeService = "/csi.v1.Node/"
 
-// respond answers a call of a node plugin.
+// respond is a function that answers a call of a node plugin.
 type respond func(ctx context.Context, path string, message []byte) ([]byte, error)
 
 // nodePlugin plays a node plugin. It answers each method over gRPC, and records its calls.
@@ -165,7 +165,7 @@ func TestDetailsOfANodeCall(t *testing.T) {
 	}
 }
 
-// The service of a call decides whether csid or the node plugin answers it.
+// The service in the path of a call decides if csid or the node plugin answers the call.
 func TestWhoAnswersACall(t *testing.T) {
 	t.Parallel()
 	const ofCsid, ofNode = "0a0463736964", "0a046e6f6465"
@@ -352,7 +352,7 @@ func TestNodePluginThatHangs(t *testing.T) {
 }
 
 // At most 64 calls run at the node plugin. One more is refused at once. Calls of csid and Probe do
-// not wait for them, and lose no room to them.
+// not wait for these calls, and the messages of these calls take no room from theirs.
 func TestTooManyNodeCalls(t *testing.T) {
 	t.Parallel()
 	const most = 64

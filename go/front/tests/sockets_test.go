@@ -268,8 +268,8 @@ func TestHelp(t *testing.T) {
 	}
 }
 
-// Another process that can only read the folder of a socket may lock it. This delays a start by a
-// second at most, and an end not at all.
+// Another process that can only read the folder of a socket may lock the folder. This delays a
+// start by a second at most, and an end not at all.
 func TestFolderThatStaysLocked(t *testing.T) {
 	t.Parallel()
 	socket := filepath.Join(processes.Folder(t), "csi.sock")

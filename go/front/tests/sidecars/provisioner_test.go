@@ -28,7 +28,7 @@ type claim struct {
 	bytes int64
 	// The zone of the node that was selected for its pod.
 	zone string
-	// Whether only this zone is allowed, as with --strict-topology of csi-provisioner.
+	// True if only this zone is allowed, as with --strict-topology of csi-provisioner.
 	strict bool
 }
 

@@ -41,7 +41,7 @@ var (
 	longestPause = 320 * time.Millisecond * slowness
 	restartPause = 100 * time.Millisecond * slowness
 
-	// How long a sidecar may take for one call, with all repeats, before the test fails.
+	// The time that a sidecar may take for one call, with all repeats, before the test fails.
 	patience = processes.Patience * slowness
 )
 

@@ -118,9 +118,9 @@ func (k *cluster) reconcile(t *testing.T, pageLength int32, others map[string]st
 	}
 }
 
-// csi-attacher compares its attachments with this list, while other volumes are attached and
-// detached. No attachment that exists throughout is missing, and no attachment is listed that never
-// existed.
+// csi-attacher compares its attachments with the replies to ListVolumes, while other volumes are
+// attached and detached. No attachment that exists throughout is missing, and no attachment is
+// listed that never existed.
 func TestReconciliation(t *testing.T) {
 	t.Parallel()
 	const standing, churning, rounds = 20, 4, 20

@@ -14,7 +14,8 @@ import (
 
 var fromHex = fixtures.FromHex
 
-// The head of the example of docs/PROTOCOL.md, and heads of longer messages, up to the longest.
+// AppendRequestHead writes the head of the example of docs/PROTOCOL.md, and heads for longer
+// messages, up to the longest.
 func TestRequestHead(t *testing.T) {
 	rows := []struct {
 		path   string
