@@ -27,8 +27,8 @@ const (
 )
 
 // limitedListener accepts connections, and keeps at most limit of them open. To make room for a new
-// one, it closes the connection that has had no call for the longest time. While each connection
-// has a call, or had one less than quietTime ago, the new connection waits.
+// one, it closes the connection that has had no call for the longest time. While each open
+// connection has a call, or has been without one for less than quietTime, the new connection waits.
 type limitedListener struct {
 	net.Listener
 	limit int

@@ -26,10 +26,10 @@ import (
 	"fomaheti/sockets"
 )
 
-// The exit statuses: done after all calls have ended, cutOff if calls still ran, badWords for
-// arguments that are refused, noReply if csid was silent for the time of --standby, noSocket if a
-// socket cannot be made or taking connections fails. csid uses the same numbers for the same
-// outcomes, except for 3.
+// The exit statuses: done after all calls have ended and for --help and --version, cutOff if calls
+// still ran, badWords for arguments that are refused, noReply if csid was silent for the time of
+// --standby, noSocket if a socket cannot be made or taking connections fails. csid uses the same
+// numbers for the same outcomes, except for 3.
 const (
 	done     = 0
 	cutOff   = 1

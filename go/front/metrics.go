@@ -18,8 +18,8 @@ const namespace = "csid_front"
 // longest deadlines of sidecars.
 var buckets = []float64{.001, .0025, .005, .01, .025, .05, .1, .25, .5, 1, 2.5, 5, 10, 30, 60}
 
-// metrics has the counters and durations of calls of clients, and the number of refusals by csid
-// with one of the openReasons.
+// metrics has the counters and durations of calls of clients, the number of calls that wait, and
+// the number of refusals by csid with one of the openReasons.
 type metrics struct {
 	calls    *prometheus.CounterVec
 	seconds  *prometheus.HistogramVec

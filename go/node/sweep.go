@@ -13,7 +13,7 @@ import (
 var dataName = regexp.MustCompile(`^(vol-[1-9][0-9]*)\.(img|img\.new|d)$`)
 
 // sweep prints the paths of the data of volumes that the controller does not list. With --remove it
-// first removes these data.
+// also removes these data, each before it prints the path.
 func sweep(args []string, out io.Writer) error {
 	found := pools{}
 	flags := flag.NewFlagSet("sweep", flag.ContinueOnError)

@@ -95,7 +95,8 @@ func ratios(these, others times) string {
 		float64(these.mean())/float64(others.mean()))
 }
 
-// Measures a change through csid-etcd, compared with its transaction made directly in etcd.
+// The test measures a change through csid-etcd, and compares it with its transaction made directly
+// in etcd.
 func TestMeasureChanges(t *testing.T) {
 	count := measureCount(t)
 	for _, members := range []int{1, 3} {
@@ -145,8 +146,8 @@ func dialProbed(t *testing.T, csid *processes.Process) *storeConn {
 	return l
 }
 
-// Measures a CreateVolume of csid over csid-etcd, compared with its transaction made directly in
-// etcd.
+// The test measures a CreateVolume of csid over csid-etcd, and compares it with its transaction
+// made directly in etcd.
 func TestMeasureCreates(t *testing.T) {
 	count := measureCount(t)
 	for _, members := range []int{1, 3} {
@@ -164,7 +165,8 @@ func TestMeasureCreates(t *testing.T) {
 	}
 }
 
-// Measures the time until csid answers its first call over 100,000 volumes and 50,000 attachments.
+// The test measures the time until csid answers its first call over 100,000 volumes and 50,000
+// attachments.
 func TestMeasureTakeOvers(t *testing.T) {
 	measureCount(t)
 	cluster := clusters.Start(t, 1)
@@ -233,7 +235,7 @@ func (l *storeConn) drain(t *testing.T) (pages int) {
 	}
 }
 
-// Measures the time of reading all rows, for several numbers of rows.
+// The test measures the time of reading all rows, for several numbers of rows.
 func TestMeasureReadings(t *testing.T) {
 	measureCount(t)
 	for _, volumes := range []int{1000, 10000, 100000} {
@@ -260,7 +262,7 @@ func TestMeasureReadings(t *testing.T) {
 	}
 }
 
-// Measures the time of importing and of exporting 100,000 volumes and 50,000 attachments.
+// The test measures the time of importing and of exporting 100,000 volumes and 50,000 attachments.
 func TestMeasureMoves(t *testing.T) {
 	measureCount(t)
 	lines, count := manyLines(100000)

@@ -189,7 +189,7 @@ func TestFileOfTheSocket(t *testing.T) {
 	}
 }
 
-// The mode allows only the owner, or the owner and a group, also with an umask that allows more.
+// The mode allows only the owner, or the owner and a group, also with a umask that allows more.
 // ListenForGroup restores the umask. It refuses an unknown group and makes no socket.
 func TestSocketForGroup(t *testing.T) {
 	before := syscall.Umask(0o002)
