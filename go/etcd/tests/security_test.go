@@ -101,7 +101,9 @@ func startSecure(t *testing.T, a *authority, count int) *clusters.Cluster {
 	return c
 }
 
-// Members accept TLS with a valid certificate, and nothing else.
+// With certificates that are valid for both sides, a program reaches the members by TLS, also if
+// the endpoints have no https://. Otherwise it waits for the lock, and its line names the
+// certificate.
 func TestTLS(t *testing.T) {
 	t.Parallel()
 	a := newAuthority(t)

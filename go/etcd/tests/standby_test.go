@@ -56,7 +56,7 @@ func (p program) wantWaiting(t *testing.T, holder string) {
 }
 
 // A waiting program refuses calls at once. It leads within the lease and 2 s after the leading
-// program is killed, and at once after the leading program has ended.
+// program is killed, and within a second after the leading program got a signal to end.
 func TestStandby(t *testing.T) {
 	t.Parallel()
 	cluster := clusters.Start(t, 3)
@@ -115,8 +115,8 @@ func (p program) stop(t *testing.T) {
 	})
 }
 
-// A program that was stopped for twice its lease closes its connection. It writes no reply, even to
-// a call that arrived before, and does not confirm its lead.
+// A program that was stopped for twice its lease gives no OK when it goes on: neither to a change
+// nor to Lead, even if the call arrived while the program was stopped.
 func TestStopped(t *testing.T) {
 	t.Parallel()
 	cluster := clusters.Start(t, 3)

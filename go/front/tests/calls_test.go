@@ -284,7 +284,7 @@ func TestLog(t *testing.T) {
 	csid := startFake(t, step{write: okFrame("")}, step{write: refusalFrame(9, "volume is in use")}, step{close: true})
 	process := processes.StartFront(t, csid.socket)
 	front := newClient(t, process.Socket)
-	secret := "2a070a0168120270772a" // any bytes: the front reads none
+	secret := "2a070a0168120270772a" // any bytes: the front does not read messages
 	front.call(t, "/a/done", secret)
 	front.call(t, "/a/refused", secret)
 	front.call(t, "/a/lost", secret)

@@ -88,7 +88,7 @@ func TestConnectionsThatFlood(t *testing.T) {
 	}
 }
 
-// A client that sends PING as often as it likes keeps its connection, and its calls are answered.
+// A client that sends a thousand PINGs at once keeps its connection, and each PING is answered.
 func TestClientThatPings(t *testing.T) {
 	t.Parallel()
 	conn, framer := speak(t, processes.StartFront(t, startFake(t).socket).Socket)

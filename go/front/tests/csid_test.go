@@ -26,9 +26,9 @@ const (
 	vol1    = "0a05 766f6c2d31"                    // volume_id "vol-1"
 	vol2    = "0a05 766f6c2d32"                    // volume_id "vol-2"
 	n1      = "1202 6e31"                          // node_id "n1"
-	createA = "0a0161" + block                     // the name "a"
+	createA = "0a0161" + block                     // the name "a", and block
 	threeB  = "1205 088080c001"                    // capacity_range of at least 3 MiB
-	zoneB   = "3a0d 0a0b 0a09 0a047a6f6e65 120162" // one requisite topology
+	zoneB   = "3a0d 0a0b 0a09 0a047a6f6e65 120162" // the requisite topology zone=b
 	// 'vol-1', 1 MiB of the pool p1 in zone a; 'vol-2', 3 MiB of the pool p2 in zone b.
 	volume1 = "0a24 08808040 1205 766f6c2d31 1a0a 0a04706f6f6c 12027031 2a0b 0a09 0a047a6f6e65 120161"
 	volume2 = "0a25 088080c001 1205 766f6c2d32 1a0a 0a04706f6f6c 12027032 2a0b 0a09 0a047a6f6e65 120162"

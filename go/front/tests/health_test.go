@@ -36,7 +36,8 @@ func (h health) wants(t *testing.T, service string, want grpc_health_v1.HealthCh
 	}
 }
 
-// Check reports whether csid serves, for the plugin as a whole and for its two services.
+// Check reports if csid serves, for the plugin as a whole and for its two services. Any other
+// service is refused with NOT_FOUND.
 func TestHealth(t *testing.T) {
 	t.Parallel()
 	const serving, notServing = grpc_health_v1.HealthCheckResponse_SERVING,

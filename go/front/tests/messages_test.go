@@ -302,7 +302,8 @@ func TestBoundsOfAClient(t *testing.T) {
 	}
 }
 
-// Calls with very long headers, which no gRPC client sends, leave nothing in memory.
+// Calls with very long headers, which no gRPC client sends, take little memory, and csid does not
+// see them.
 func TestManyLongHeaders(t *testing.T) {
 	t.Parallel()
 	const calls, fields = 50, 4000

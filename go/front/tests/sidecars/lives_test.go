@@ -134,8 +134,8 @@ func twice(t *testing.T, what string, does func() error) {
 	}
 }
 
-// An attached volume is not deleted, and not attached to another node. Both errors are final, and
-// the attachment stays.
+// An attached volume is not deleted, and not attached to another or to an unknown node. No volume
+// above the greatest size is made. Sidecars do not repeat these calls, and the attachment stays.
 func TestFinalErrors(t *testing.T) {
 	t.Parallel()
 	_, socket := startDriver(t, twoZones)
