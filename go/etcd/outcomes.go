@@ -97,7 +97,7 @@ func withSendOnce(ctx context.Context) context.Context {
 }
 
 // sendOnce is an interceptor below the retries of etcd's client. It lets a transaction through a
-// second time only if etcd refused its token; etcd's client has a new token by then.
+// second time only if etcd refused the token of the first attempt. By then login has a new token.
 func sendOnce(ctx context.Context, method string, request, reply interface{}, conn *grpc.ClientConn,
 	invoke grpc.UnaryInvoker, options ...grpc.CallOption) error {
 	last, isOnce := ctx.Value(attemptKey{}).(*attempt)
