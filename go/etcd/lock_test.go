@@ -12,8 +12,9 @@ import (
 	"go.etcd.io/etcd/mvcc/mvccpb"
 )
 
-// A leading program that sees an older snapshot closes the connection of csid and refuses its
-// calls, also after later answers with higher revisions. It does not repeat its last line.
+// A leading program that sees an older snapshot closes the connection of csid and refuses the calls
+// of csid, also after later answers with higher revisions. The program does not repeat its last
+// line.
 func TestOlderWhileLeading(t *testing.T) {
 	const older = "etcd is at revision 90, and 110 was answered: it was restored from an older snapshot, and volumes " +
 		"may be missing; --accept-older goes on"

@@ -1,6 +1,6 @@
 // csid-etcd is the change store of a csid whose rows are in etcd. It reads rows and makes changes
 // for this csid while it holds a lock in etcd. Several csid-etcd can run, each with its own csid.
-// Only the holder of the lock serves. When it loses the lock, another one takes over.
+// Only the holder of the lock serves. When the holder loses the lock, another csid-etcd takes over.
 package main
 
 import (

@@ -224,8 +224,8 @@ func (c memberCredentials) ClientHandshake(ctx context.Context, _ string, raw ne
 	return &memberConn{conn, to, used, c.members}, info, nil
 }
 
-// memberConn notes a TLS alert: a member that refuses this program's certificate sends it after the
-// handshake.
+// memberConn notes a TLS alert: a member that refuses this program's certificate sends an alert
+// after the handshake.
 type memberConn struct {
 	net.Conn
 	to      string

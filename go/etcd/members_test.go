@@ -54,8 +54,8 @@ func TestMembersOf(t *testing.T) {
 	}
 }
 
-// A line names a member that refuses connections. It is repeated after the reason has changed, and
-// leaves the reason out after an answer.
+// A line names a member that refuses connections. The line is repeated after the reason has
+// changed. After an answer of the member the next line has no reason.
 func TestUnreachedMember(t *testing.T) {
 	listener, err := net.Listen("tcp", "127.0.0.1:0")
 	if err != nil {

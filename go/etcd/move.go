@@ -47,7 +47,7 @@ func checkFormat(row meta) error {
 // runOnce makes the first row, imports, exports or lists rows, and returns the exit status. It
 // needs no lock and no socket.
 func runOnce(opts options, lines *logger) int {
-	// The output is the result alone, without lines on certificates.
+	// Such a command writes its result alone, without lines about certificates.
 	m := newMembers(opts, func(string, ...interface{}) {})
 	var option string
 	var err error
@@ -75,7 +75,8 @@ func runOnce(opts options, lines *logger) int {
 var errUnfinishedImport = errors.New("rows are there, and meta is not: an import was not ended")
 
 // makeNew makes the first row, and prints that it did. If the row of meta exists already, it prints
-// this row. If other keys of the plugin exist without it, makeNew returns errUnfinishedImport.
+// this row. If other keys of the plugin exist without the row of meta, makeNew returns
+// errUnfinishedImport.
 func makeNew(m *members, to io.Writer) error {
 	opts := m.opts
 	client, err := m.connect()

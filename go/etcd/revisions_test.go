@@ -154,8 +154,8 @@ func TestBadRevisionFile(t *testing.T) {
 	})
 }
 
-// After a failure the file is written later, even without a new answer. It is replaced as a whole:
-// a crash leaves the old text or the new one.
+// After a failure the file is written later, even without a new answer. The file is replaced as a
+// whole: a crash leaves the old text or the new one.
 func TestSaveAgain(t *testing.T) {
 	folder := filepath.Join(t.TempDir(), "none")
 	r := &revisions{path: filepath.Join(folder, "revision")}

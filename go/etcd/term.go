@@ -29,7 +29,7 @@ type term struct {
 	created int64
 	// The revision at which the key was last put. Each transaction compares it.
 	put int64
-	// Set after a transaction with an unknown outcome: etcd may still make it.
+	// Set after a transaction with an unknown outcome, which etcd may still make.
 	needsFence bool
 	// The greatest revision in an answer so far.
 	seen int64

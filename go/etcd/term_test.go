@@ -172,9 +172,9 @@ func outcome(err error) (codes.Code, string) {
 	return codes.OK, ""
 }
 
-// If etcd answers that it has no space, a change is refused only if a read shows that its key is
-// not newer than revision 100. This is the greatest revision seen before. A deleted key leaves no
-// trace that would show if the change was made.
+// If etcd answers that it has no space, a change is refused only if a read shows that the key of
+// the change is not newer than revision 100, the greatest revision seen before. A deleted key
+// leaves no trace that would show if the change was made.
 func TestNoSpaceOutcome(t *testing.T) {
 	puts, deletes := &attach{attachment{7, "n", nil, false}}, &detach{7, "n"}
 	cases := []struct {

@@ -28,8 +28,8 @@ const (
 )
 
 // maxRequestBytes is the greatest size of the first line and the headers of a request. net/http
-// reads 4 KiB more before it refuses a request. Ten thousand short headers would take some MiB of
-// memory.
+// reads 4 KiB more before it refuses a request. With a greater limit, a request with ten thousand
+// short headers would take some MiB of memory.
 const maxRequestBytes = 8 << 10
 
 // newMonitor returns the handler for monitoring: /metrics for Prometheus, /healthz for a health

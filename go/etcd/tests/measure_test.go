@@ -95,8 +95,8 @@ func ratios(these, others times) string {
 		float64(these.mean())/float64(others.mean()))
 }
 
-// The test measures a change through csid-etcd, and compares it with its transaction made directly
-// in etcd.
+// The test measures the time of a change through csid-etcd, and of the same transaction made
+// directly in etcd.
 func TestMeasureChanges(t *testing.T) {
 	count := measureCount(t)
 	for _, members := range []int{1, 3} {
@@ -146,7 +146,7 @@ func dialProbed(t *testing.T, csid *processes.Process) *storeConn {
 	return l
 }
 
-// The test measures a CreateVolume of csid over csid-etcd, and compares it with its transaction
+// The test measures the time of a CreateVolume of csid over csid-etcd, and of the same transaction
 // made directly in etcd.
 func TestMeasureCreates(t *testing.T) {
 	count := measureCount(t)

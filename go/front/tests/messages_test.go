@@ -198,7 +198,7 @@ func (c *silentClient) call(ctx context.Context) {
 }
 
 // Calls that send no message make room for a call of another client. This call waits neither for
-// the end of all of them nor for the calls that replace them.
+// the end of all of the silent calls nor for the calls that replace them.
 func TestCallsWithoutAMessageThatComeAgain(t *testing.T) {
 	t.Parallel()
 	const clients, calls, probes = 4, 250, 3
@@ -255,8 +255,8 @@ func TestMessagesThatAreAnnounced(t *testing.T) {
 			conn.Close()
 		}
 	}
-	// The memory depends on when Go collects its garbage. With room for each announced message it
-	// would be above this limit.
+	// The memory depends on when Go collects its garbage. With room for each announced message, the
+	// memory would be above this limit.
 	if taken := process.ResidentBytes(t); taken > 384<<20 {
 		t.Errorf("the front takes %d MiB", taken>>20)
 	}

@@ -398,8 +398,8 @@ func TestNodeMessagesThatAreTooLong(t *testing.T) {
 		refused(codes.ResourceExhausted, "grpc: received message larger than max (4194305 vs. 4194304)"))
 }
 
-// Probe has the answer of csid. If csid is ready and the node plugin is not, it has the answer of
-// the node plugin.
+// Probe has the answer of csid. If csid is ready and the node plugin is not, Probe has the answer
+// of the node plugin.
 func TestProbeOfBoth(t *testing.T) {
 	t.Parallel()
 	const notReady, nothing, other = "0a020800", "", "0a020801 1001"
@@ -529,7 +529,7 @@ func TestMetricsOfNodeCalls(t *testing.T) {
 }
 
 // A front with --standby and --node serves the Node service from its start, even if csid does not
-// serve. It does not end when csid is silent.
+// serve. Such a front does not end when csid is silent.
 func TestNodeWhileTheFrontStandsBy(t *testing.T) {
 	t.Parallel()
 	path := filepath.Join(processes.Folder(t), "csid.sock")

@@ -89,8 +89,8 @@ func TestSocketThatCannotBeMade(t *testing.T) {
 	refuses(t, frontAt(t, "csid.sock", filepath.Join(processes.Folder(t), strings.Repeat("a", 120))), 7, "aaa")
 }
 
-// Several fronts start together where a dead socket is. Exactly one of them gets the socket, and
-// keeps it.
+// Several fronts start together at the path of a socket without a listener. Exactly one of them
+// gets the socket, and keeps it.
 func TestFrontsThatStartTogether(t *testing.T) {
 	t.Parallel()
 	csid, socket := startFake(t), deadSocket(t)

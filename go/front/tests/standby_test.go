@@ -212,7 +212,7 @@ func TestStandbyEndsDuringACall(t *testing.T) {
 	}
 }
 
-// Without calls, the front sends a Probe every third of the limit, and their replies keep it
+// Without calls, the front sends a Probe every third of the limit, and the replies keep the front
 // running.
 func TestStandbyWithoutCalls(t *testing.T) {
 	t.Parallel()

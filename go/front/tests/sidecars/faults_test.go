@@ -154,8 +154,8 @@ func TestKills(t *testing.T) {
 	wantsListed(t, k.attacher, k.nodes)
 }
 
-// Two provisioners both act as the leader. They create one volume for each claim, and delete it
-// together.
+// Two provisioners both act as the leader. They create one volume for each claim, and then both
+// delete all volumes.
 func TestTwoProvisioners(t *testing.T) {
 	t.Parallel()
 	const count = 100
