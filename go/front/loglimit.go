@@ -17,8 +17,8 @@ const linesASecond = 10
 type lineLimit struct {
 	report func(counts map[string]uint64)
 	mutex  sync.Mutex
-	// When the running second began, how many lines have passed in it, and how many of each kind
-	// have not.
+	// The time at which the running second began, the number of lines that have passed in it, and
+	// the number of lines of each kind that have not.
 	begun  time.Time
 	passed int
 	counts map[string]uint64

@@ -41,7 +41,7 @@ const (
 // version is the version of the repository. go/front/build takes it from the file VERSION.
 var version = "unknown"
 
-// How long the end of the front waits for its last lines to be written.
+// The time for which the end of the front waits at most until its last lines are written.
 const lastLinesTime = time.Second
 
 func main() {

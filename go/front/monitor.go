@@ -12,8 +12,8 @@ import (
 	"google.golang.org/grpc/status"
 )
 
-// The greatest numbers of scrapes and of health requests that are answered at once. Each of them
-// asks csid.
+// The greatest numbers of scrapes and of health requests that are answered at once. Each scrape and
+// each health request asks csid.
 const (
 	maxScrapes      = 4
 	maxHealthChecks = 4

@@ -14,7 +14,7 @@ import (
 // maxNodeCalls is the greatest number of calls of the Node service that run at once. Their messages
 // take at most 64 MiB, which is also the default limit for messages that wait for csid. One
 // connection of a client can have four times as many calls (maxWaitingCalls). So if the plugin
-// hangs, three quarters of them are left for csid.
+// hangs, three quarters of these calls are left for csid.
 const maxNodeCalls = 64
 
 // maxNodeProbes is the greatest number of Probes that the plugin gets at once. Probes do not count

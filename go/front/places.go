@@ -30,9 +30,9 @@ type places struct {
 	mutex  sync.Mutex
 	free   int
 	shares map[*clientConn]*share
-	// How many calls wait for a place, and how many calls have begun to wait since the start of the
-	// front. stillSince is the time at which the last message came, or at which the calls began to
-	// wait, if that was later.
+	// The number of calls that wait for a place, and the number of calls that have begun to wait
+	// since the start of the front. stillSince is the time at which the last message came, or at
+	// which the calls began to wait, if that was later.
 	waiting    int
 	numbers    uint64
 	stillSince time.Time

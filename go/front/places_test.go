@@ -78,7 +78,8 @@ func TestSecondWithoutAMessage(t *testing.T) {
 	}
 }
 
-// A call gets a free place at once. If all places are taken, it waits until its context ends.
+// A call gets a free place at once. If all places are taken, the call waits, but no longer than its
+// context.
 func TestCallsThatWaitForAPlace(t *testing.T) {
 	p := newPlaces()
 	ctx, cancel := context.WithCancel(context.Background())
