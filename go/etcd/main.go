@@ -29,7 +29,7 @@ const (
 // version is set by go/etcd/build from the file VERSION.
 var version = "unknown"
 
-// lastLinesTime is how long the program waits at its end until its last lines are written.
+// lastLinesTime is the longest wait at the end of the program until its last lines are written.
 const lastLinesTime = time.Second
 
 func main() {

@@ -15,8 +15,8 @@ import (
 	"fomaheti/frames"
 )
 
-// greetingTime is how long a client may take to begin HTTP/2 on a new connection. A client that has
-// not begun delays a graceful end for at most this time.
+// greetingTime is the time that a client may take to begin HTTP/2 on a new connection. A client
+// that has not begun delays a graceful end for at most this time.
 const greetingTime = 5 * time.Second
 
 // maxWaitingCalls is the greatest number of calls that run at once over one connection of a client.

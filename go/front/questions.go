@@ -13,7 +13,7 @@ import (
 	"google.golang.org/protobuf/encoding/protowire"
 )
 
-// questionTime is how long the front waits for the reply to a call that it makes itself.
+// questionTime is the longest wait of the front for the reply to a call that it makes itself.
 const questionTime = 5 * time.Second
 
 // errNoMessage is the error if the body of a reply of csid cannot be decoded as a message.

@@ -19,8 +19,8 @@ import (
 // idPrefix is the first part of a volume's id, before its number in decimal.
 const idPrefix = "vol-"
 
-// lookUpTime is how long a call waits for the page. If the page does not come in time, the call
-// counts as a change.
+// lookUpTime is the longest wait of a delete or an unpublish for the page of its look-up. If the
+// page does not come in time, the call counts as a change.
 const lookUpTime = time.Second
 
 // removal is the result of the look-up before a delete or an unpublish. It is empty for any other

@@ -198,7 +198,8 @@ func (devices) usage(data, path string) (*usage, error) {
 	return &usage{Total: file.Size(), Unit: unitBytes}, nil
 }
 
-// presence is how a volume is at a path: not there, as a mounted file system, or as a block device.
+// presence is the state of a volume at a path: not there, there as a mounted file system, or there
+// as a block device.
 type presence int
 
 const (

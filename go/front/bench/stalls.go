@@ -31,8 +31,8 @@ const (
 	quietPeers    = 1000
 )
 
-// allowed is how long service may be missing after the stop has ended, in addition to one opening
-// of the file. waited is how long the bench waits for service at most.
+// allowed is the time for which service may be missing after the stop has ended, in addition to one
+// opening of the file. waited is the longest wait of the bench for service.
 const (
 	allowed = 2 * time.Second
 	waited  = 90 * time.Second

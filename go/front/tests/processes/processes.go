@@ -20,7 +20,7 @@ import (
 // With JOURNAL_STREAM set, the lines of a program have no time, as if they went to the journal.
 func init() { os.Setenv("JOURNAL_STREAM", "8:1") }
 
-// Patience is how long anything may take before a test gives it up.
+// Patience is the time that anything may take before a test gives it up.
 const Patience = time.Minute
 
 // pathOf returns the path in an environment variable. If the variable is not set, it returns the
