@@ -39,7 +39,7 @@ func checkStream(ctx context.Context, description *grpc.StreamDesc, conn *grpc.C
 	return checkedStream{stream}, nil
 }
 
-// checkedStream checks each answer that it receives.
+// checkedStream is a stream whose RecvMsg refuses malformed answers.
 type checkedStream struct{ grpc.ClientStream }
 
 // RecvMsg receives the next answer of the stream, and refuses a malformed one.

@@ -130,7 +130,7 @@ func batchSize(rows []importLine) int {
 	return len(rows)
 }
 
-// importer is a running import.
+// importer is the state of one import: its settings, and what it has written so far.
 type importer struct {
 	client  *clientv3.Client
 	keys    keys

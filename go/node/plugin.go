@@ -13,14 +13,15 @@ import (
 	"google.golang.org/grpc/status"
 )
 
-// The services of CSI.
+// The names of CSI's services in the paths of calls.
 const (
 	identityName   = "csi.v1.Identity"
 	controllerName = "csi.v1.Controller"
 	nodeName       = "csi.v1.Node"
 )
 
-// Values of CSI's enumerations.
+// Values of CSI's enumerations: a capability of the plugin, two capabilities of a node, and the
+// unit of a volume's usage.
 const (
 	accessibilityConstraints = 2
 	stageUnstageVolume       = 1

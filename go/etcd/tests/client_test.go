@@ -60,7 +60,7 @@ func (p program) waitLog(t *testing.T, text string) {
 		func() bool { return strings.Contains(p.Log.String(), text) })
 }
 
-// storeConn is a connection to csid-etcd.
+// storeConn is a connection to csid-etcd. Its replies are read from in.
 type storeConn struct {
 	net.Conn
 	in *frames.Replies

@@ -247,7 +247,7 @@ func (d *driver) add() (message []byte, after rows) {
 	return addVolume(d.next, volumeName), after
 }
 
-// String summarizes the outcomes.
+// String returns the numbers of the outcomes, and the longest time between two OK, as one line.
 func (d *driver) String() string {
 	return fmt.Sprintf("%d OK, %d ends without a reply of which %d were made, refusals %v, at most %v between two OK",
 		d.ok, d.unknown, d.made, d.refused, d.gap.Round(time.Millisecond))

@@ -140,7 +140,7 @@ func transactions(t *testing.T, cluster *clusters.Cluster) (count int) {
 	return count
 }
 
-// revision returns the revision of etcd.
+// revision returns the newest revision of etcd.
 func revision(t *testing.T, client *clientv3.Client) int64 {
 	t.Helper()
 	read, err := client.Get(context.Background(), name)
@@ -200,7 +200,7 @@ func (f *filling) wantKnown(t *testing.T) {
 	}
 }
 
-// removeEven removes the volumes with even numbers.
+// removeEven detaches and removes the known volumes with even numbers.
 func (f *filling) removeEven(t *testing.T) {
 	t.Helper()
 	for number := uint64(2); number < f.next; number += 2 {

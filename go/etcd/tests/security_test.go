@@ -211,7 +211,7 @@ func newRotation(t *testing.T) *rotation {
 	return r
 }
 
-// trust writes the file of trusted authorities.
+// trust makes the certificates of these authorities the content of the file ca.pem.
 func (r *rotation) trust(t *testing.T, trusted ...*authority) {
 	t.Helper()
 	var all []byte
@@ -279,7 +279,7 @@ func (u *userCluster) args(more ...string) []string {
 	return append([]string{"--user", "csid", "--password-file", u.password}, more...)
 }
 
-// write writes the file of the password.
+// write makes text the content of the file of the password.
 func (u *userCluster) write(t *testing.T, text string) {
 	t.Helper()
 	if err := os.WriteFile(u.password, []byte(text), 0o600); err != nil {

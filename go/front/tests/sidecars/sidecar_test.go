@@ -120,7 +120,7 @@ func comeUp(t *testing.T, socket string) (*sidecar, error) {
 	return s, nil
 }
 
-// ask makes one call with a deadline.
+// ask makes one call, whose deadline is length from now.
 func (s *sidecar) ask(length time.Duration, path string, request, response interface{}) error {
 	ctx, cancel := context.WithTimeout(context.Background(), length)
 	defer cancel()
