@@ -98,8 +98,9 @@ func readOptions(args []string, out io.Writer) (options, error) {
 	return opts, check(opts)
 }
 
-// setFilter applies to --list, with which --id is the id of a volume. With --plugin, --name is the
-// name of a volume, as in csid --list-tables. Without --plugin, --name is the name of the plugin.
+// setFilter completes filter for --list, where --id is the id of a volume. With --plugin, --name is
+// the name of a volume, as in csid --list-tables. Without --plugin, --name is the name of the
+// plugin.
 func (opts *options) setFilter() error {
 	if !opts.isList {
 		return nil

@@ -31,7 +31,7 @@ type server struct {
 	newest      *connection
 }
 
-// connection is a connection from csid.
+// connection is a connection from csid, with the walk that reads the rows for it.
 type connection struct {
 	net.Conn
 	// replaced is closed when a newer connection arrives or the program ends. done is closed when

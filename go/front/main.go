@@ -41,7 +41,7 @@ const (
 // version is the version of the repository. go/front/build takes it from the file VERSION.
 var version = "unknown"
 
-// The time for which the end of the front waits at most until its last lines are written.
+// The longest time that the front waits, at its end, until its last lines are written.
 const lastLinesTime = time.Second
 
 func main() {

@@ -364,9 +364,9 @@ func TestCallsAfterARefusedChange(t *testing.T) {
 	}
 }
 
-// refusedChange describes a csid that refuses one of 16 calls, with the number refused. readsNext
-// is true if the call after it changes nothing. ends is the number of further replies after which
-// csid ends the connection. If ends is 0, the front ends the connection.
+// refusedChange describes a csid that refuses one of 16 calls: the call with the number refused.
+// readsNext is true if the call after it changes nothing. ends is the number of further replies
+// after which csid ends the connection. If ends is 0, the front ends the connection.
 type refusedChange struct {
 	name      string
 	refused   uint32

@@ -30,7 +30,7 @@ const (
 	leadPath   = "/fomaheti.log.v1.Log/Lead"
 )
 
-// program is a running csid-etcd.
+// program is a csid-etcd that a test has started.
 type program struct{ *processes.Process }
 
 // start starts a csid-etcd with further arguments, and waits until it answers.

@@ -34,8 +34,8 @@ const (
 	volume2 = "0a25 088080c001 1205 766f6c2d32 1a0a 0a04706f6f6c 12027032 2a0b 0a09 0a047a6f6e65 120162"
 )
 
-// Calls of an orchestrator under the sample configuration (docs/OPERATING.md), and their answers. A
-// row sees the volumes of the rows before it.
+// Calls of an orchestrator under the sample configuration (docs/OPERATING.md), and their answers.
+// One csid gets them in this order, so a call finds the volumes of the calls before it.
 var callsOfVolumes = []struct {
 	path, message string
 	want          answer

@@ -16,7 +16,7 @@ import (
 	"./processes"
 )
 
-// The time within which service must be back after a fault has passed.
+// After a fault has passed, service must be back within this time.
 const soonBack = 2 * time.Second
 
 // smallDisk mounts a file system with this number of bytes, and returns its folder. It skips the

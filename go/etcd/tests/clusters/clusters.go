@@ -29,7 +29,7 @@ type Member struct {
 	Current *processes.Process
 }
 
-// Cluster is a cluster of etcd.
+// Cluster is a cluster of etcd: its members, and what etcdctl needs to reach them.
 type Cluster struct {
 	Members []*Member
 	scheme  string
