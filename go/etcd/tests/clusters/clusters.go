@@ -37,7 +37,7 @@ type Cluster struct {
 	Args []string
 }
 
-// Settings are the optional settings of a cluster.
+// Settings describe how a cluster differs from one without TLS and with etcd's defaults.
 type Settings struct {
 	// Args are further arguments of each member.
 	Args []string
