@@ -37,7 +37,8 @@ type Cluster struct {
 	Args []string
 }
 
-// Settings describe how a cluster differs from one without TLS and with etcd's defaults.
+// Settings add arguments to all members of a cluster, and TLS to its clients. The zero value adds
+// neither.
 type Settings struct {
 	// Args are further arguments of each member.
 	Args []string
