@@ -17,10 +17,10 @@ import (
 // malformed is the error for a malformed answer of etcd. Its text says what is missing or wrong.
 type malformed string
 
-// Error implements error.
+// Error returns "etcd's answer is malformed: " and the part that is missing or wrong.
 func (m malformed) Error() string { return "etcd's answer is malformed: " + string(m) }
 
-// checkUnary is an interceptor that checks the answer to a single request.
+// checkUnary is an interceptor that checks the answer to a call with one request and one answer.
 func checkUnary(ctx context.Context, method string, request, reply interface{}, conn *grpc.ClientConn,
 	invoke grpc.UnaryInvoker, options ...grpc.CallOption) error {
 	if err := invoke(ctx, method, request, reply, conn, options...); err != nil {
@@ -39,10 +39,10 @@ func checkStream(ctx context.Context, description *grpc.StreamDesc, conn *grpc.C
 	return checkedStream{stream}, nil
 }
 
-// checkedStream checks each answer that it receives.
+// checkedStream is a stream whose RecvMsg refuses malformed answers.
 type checkedStream struct{ grpc.ClientStream }
 
-// RecvMsg implements grpc.ClientStream. It refuses a malformed answer.
+// RecvMsg receives the next answer of the stream, and refuses a malformed one.
 func (s checkedStream) RecvMsg(reply interface{}) error {
 	if err := s.ClientStream.RecvMsg(reply); err != nil {
 		return err
@@ -79,7 +79,8 @@ func checkAnswer(request, reply interface{}) error {
 	return nil
 }
 
-// checkRows refuses rows outside the request, and an empty page that is not the last one.
+// checkRows refuses rows outside the request, more rows than its limit, rows without a revision,
+// and an empty page that is not the last one.
 func checkRows(request *pb.RangeRequest, answer *pb.RangeResponse) error {
 	if answer.More && len(answer.Kvs) == 0 {
 		return malformed("more rows follow none")
@@ -109,7 +110,7 @@ func isRequested(request *pb.RangeRequest, row *mvccpb.KeyValue) bool {
 }
 
 // checkTransaction refuses an answer unless it has one response of the right kind for each
-// operation.
+// operation that etcd made. It also checks the rows of each read.
 func checkTransaction(request *pb.TxnRequest, answer *pb.TxnResponse) error {
 	operations := request.Failure
 	if answer.Succeeded {

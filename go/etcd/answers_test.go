@@ -31,11 +31,12 @@ func responses(operations []*pb.RequestOp) (all []*pb.ResponseOp) {
 	return all
 }
 
-// partialServer is an etcd with complete answers, until remove takes a part away.
+// partialServer is an etcd that calls remove with each of its complete answers before it sends the
+// answer.
 type partialServer struct {
 	pb.KVServer
 	pb.LeaseServer
-	// Set if each comparison fails, or if etcd has no space.
+	// isRefused is set if each comparison fails, and isFull if etcd has no space.
 	isRefused, isFull bool
 	remove            func(reply interface{})
 }
@@ -67,7 +68,7 @@ func (s *partialServer) LeaseGrant(context.Context, *pb.LeaseGrantRequest) (*pb.
 	return reply, nil
 }
 
-// Functions that remove a part of one kind of answer.
+// Functions that remove or change a part of an answer.
 func noHeader(reply interface{}) {
 	switch reply := reply.(type) {
 	case *pb.RangeResponse:
@@ -131,7 +132,8 @@ func anotherRow(reply interface{}) {
 	}
 }
 
-// Functions that each read one kind of answer of etcd.
+// Functions that each make a request of the program to etcd, and return the error of reading the
+// answer.
 var (
 	askLease      = func(t *term) error { _, _, err := grantLease(t.ctx, t.client, 10); return err }
 	askQueue      = func(t *term) error { _, err := t.queue(); return err }
@@ -164,7 +166,7 @@ var (
 	}
 )
 
-// Texts of errors for malformed answers.
+// Parts of the texts of errors for malformed answers.
 const (
 	wantRevision = "has no revision"
 	wantCount    = "responses to"
@@ -173,7 +175,7 @@ const (
 	wantOther    = `the row "of nobody" was not asked for`
 )
 
-// Servers with complete answers.
+// Servers on which each comparison holds, each comparison fails, or etcd has no space.
 var wholeServer, refusingServer, fullServer = partialServer{}, partialServer{isRefused: true},
 	partialServer{isFull: true}
 

@@ -12,8 +12,8 @@ import (
 	"time"
 )
 
-// A certificate that ends within expirySoon is reported every warningPause. The files are read
-// every filesPause.
+// A certificate that has expired or ends within expirySoon is reported every warningPause. The
+// files are read every filesPause.
 const (
 	expirySoon   = 30 * 24 * time.Hour
 	warningPause = 24 * time.Hour
@@ -21,7 +21,8 @@ const (
 )
 
 // certificates holds the contents of the TLS files: the authorities that sign etcd's certificates,
-// and this program's own certificate and key. Without --cacert the system's authorities apply.
+// and this program's own certificate and key. Without --cacert roots is nil, and the system's
+// authorities apply. Without --cert own and leaf are nil.
 type certificates struct {
 	roots []*x509.Certificate
 	own   *tls.Certificate
@@ -52,7 +53,8 @@ func readCertificates(opts options) (certs certificates, err error) {
 	return certs, nil
 }
 
-// parseCertificates returns the certificates of a PEM file and skips its other blocks.
+// parseCertificates returns the certificates of a PEM file. It skips blocks that are not valid
+// certificates.
 func parseCertificates(text []byte) (all []*x509.Certificate) {
 	for block, rest := pem.Decode(text); block != nil; block, rest = pem.Decode(rest) {
 		if one, err := x509.ParseCertificate(block.Bytes); block.Type == "CERTIFICATE" && err == nil {
@@ -77,7 +79,8 @@ func (c certificates) tlsConfig() *tls.Config {
 	return tlsConfig
 }
 
-// equal reports whether both hold the same certificates in the same order.
+// equal reports whether both have the same own certificate, and the same authorities in the same
+// order.
 func (c certificates) equal(other certificates) bool { return bytes.Equal(c.raw(), other.raw()) }
 
 func (c certificates) raw() (all []byte) {
@@ -87,7 +90,7 @@ func (c certificates) raw() (all []byte) {
 	return all
 }
 
-// used returns each certificate with the option that names its file.
+// used returns the own certificate and the authorities, each with the option that names its file.
 func (c certificates) used() (all []usedCertificate) {
 	if c.leaf != nil {
 		all = append(all, usedCertificate{"--cert", c.leaf})
@@ -138,8 +141,9 @@ func (c certificates) warnings(now time.Time) (lines []string) {
 	return lines
 }
 
-// handshakeError describes a failed handshake with the refused certificate. It leaves out the parts
-// of the error that differ between attempts, so that equal failures give equal lines.
+// handshakeError describes a failed handshake. If a certificate was refused, the text names it, and
+// leaves out the parts of the error that differ between attempts: then equal failures give equal
+// lines. Otherwise it is the text of err.
 func handshakeError(err error) string {
 	var unknown x509.UnknownAuthorityError
 	var invalid x509.CertificateInvalidError

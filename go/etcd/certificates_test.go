@@ -18,7 +18,8 @@ import (
 	"time"
 )
 
-// writeCertificate writes a new self-signed certificate and its key.
+// writeCertificate writes a new self-signed certificate for this name and its key to the paths cert
+// and key. The certificate ends at the time until.
 func writeCertificate(t *testing.T, cert, key, name string, until time.Time) {
 	t.Helper()
 	pair, err := ecdsa.GenerateKey(elliptic.P256(), rand.Reader)
@@ -44,7 +45,8 @@ func writeCertificate(t *testing.T, cert, key, name string, until time.Time) {
 	}
 }
 
-// The contents of --cacert, --cert and --key, and the errors of reading them.
+// The files of --cacert, --cert and --key are read, and a file that cannot be used gives an error
+// that names its option.
 func TestReadCertificates(t *testing.T) {
 	folder := t.TempDir()
 	cert, key, empty := filepath.Join(folder, "cert"), filepath.Join(folder, "key"), filepath.Join(folder, "empty")
@@ -91,7 +93,7 @@ func TestReadCertificates(t *testing.T) {
 	}
 }
 
-// The scheme of the first endpoint decides on TLS; without a scheme an option does.
+// The scheme of the first endpoint decides on TLS. Without a scheme, --cacert or --cert means TLS.
 func TestIsSecure(t *testing.T) {
 	cases := []struct {
 		name                   string

@@ -42,7 +42,7 @@ type plan struct {
 
 var errNumber = refusal{codes.InvalidArgument, "a number is above 9223372036854775807"}
 
-// firstMeta is the first row of meta (docs/TABLES.md).
+// firstMeta is the row of meta in new tables (docs/TABLES.md).
 var firstMeta = meta{format: 2, next: 1}
 
 func keyExists(key string) clientv3.Cmp {
@@ -174,7 +174,7 @@ func (c *setMutable) plan(ctx context.Context, t *term) (plan, error) {
 	}, nil
 }
 
-// makeMeta is the change that makes the first row.
+// makeMeta is the change that makes the first row, the row of meta.
 type makeMeta struct{}
 
 func (makeMeta) plan(_ context.Context, t *term) (plan, error) { return t.keys.firstRow(), nil }
@@ -201,7 +201,8 @@ func (k keys) firstRow() plan {
 	}
 }
 
-// brokenRow returns the refusal for a row that is not as csid-etcd writes rows.
+// brokenRow returns a refusal with the key of a row, without the plugin's name, and the error of
+// this row.
 func brokenRow(k keys, key string, err error) refusal {
 	return refuse("%s: %v", k.display(key), err)
 }

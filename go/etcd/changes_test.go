@@ -34,8 +34,8 @@ func (s *compareServer) Txn(_ context.Context, request *pb.TxnRequest) (*pb.TxnR
 	return done, nil
 }
 
-// The first row is made, and an import starts, only if the plugin has no key. A key of the lock
-// stops an import but not the first row. Keys of other plugins stop neither of them.
+// The first row is made only if the plugin has no key except keys of the lock. An import starts
+// only if the plugin has no key at all. Keys of other plugins do not count.
 func TestFirstOfAll(t *testing.T) {
 	const name = "example.fomaheti"
 	cases := []struct {

@@ -13,8 +13,8 @@ import (
 	"google.golang.org/grpc"
 )
 
-// maxRequestBytes is the greatest length of a request that the client sends. csid's longest change
-// fits. etcd has its own limit.
+// maxRequestBytes is the greatest length in bytes of a request that the client sends. csid's
+// longest change fits. etcd has its own limit.
 const maxRequestBytes = 4 << 20
 
 // keepAliveTime is the silence after which a connection is pinged. gRPC allows no shorter time, and
@@ -24,8 +24,8 @@ const keepAliveTime = 10 * time.Second
 // windowSize is the flow-control window in bytes. It is larger than a page of rows.
 const windowSize = 4 << 20
 
-// connect makes a client of etcd. It reads the password file now and the TLS files again for each
-// connection.
+// connect makes a client of etcd. With --user it also logs in, and fails if that fails. It reads
+// the password file now, and the TLS files again for each connection.
 func (m *members) connect() (*clientv3.Client, error) {
 	password, err := readPassword(m.opts)
 	if err != nil {

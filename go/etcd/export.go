@@ -13,7 +13,8 @@ import (
 	"go.etcd.io/etcd/etcdserver/api/v3rpc/rpctypes"
 )
 
-// The methods below return SQL statements that add rows to new tables of csid (docs/TABLES.md).
+// The methods below return SQL statements that put rows into new tables of csid (docs/TABLES.md).
+// New tables already have the row of meta.
 
 func (m meta) statement() string {
 	return fmt.Sprintf("UPDATE meta SET next_number = %d;", m.next)
@@ -71,7 +72,7 @@ func (r *snapshot) get(key string, opts ...clientv3.OpOption) (read *clientv3.Ge
 }
 
 // export prints all rows at one revision as SQL. COMMIT comes last, once all rows were checked and
-// printed, so an export that stops early changes no tables.
+// printed, so the SQL of an export that stops early changes no tables.
 func export(m *members, to io.Writer, lines *logger) error {
 	client, err := m.connect()
 	if err != nil {
@@ -93,7 +94,8 @@ func export(m *members, to io.Writer, lines *logger) error {
 	return err
 }
 
-// readMeta reads the row of meta. If the row is missing, it returns errNoMeta.
+// readMeta reads the row of meta. If the row is missing, it returns errNoMeta. It refuses a row in
+// another format than firstMeta.
 func (r *snapshot) readMeta(k keys) (row meta, err error) {
 	read, err := r.get(k.meta())
 	if err != nil {
@@ -108,7 +110,7 @@ func (r *snapshot) readMeta(k keys) (row meta, err error) {
 	return row, checkFormat(row)
 }
 
-// print prints the transaction up to its COMMIT.
+// print prints the SQL transaction without its COMMIT, and returns the counts of its rows.
 func (r *snapshot) print(k keys, out io.Writer) (found counts, err error) {
 	row, err := r.readMeta(k)
 	if err != nil {
@@ -124,7 +126,8 @@ func (r *snapshot) print(k keys, out io.Writer) (found counts, err error) {
 	})
 }
 
-// forEach calls take for each row except meta, in the order of keys.
+// forEach calls take for each row except meta, in ascending order of keys. It skips the keys of the
+// lock. It stops at the first error of take, and at the first key or value that is not a row.
 func (r *snapshot) forEach(k keys, take func(tableRow) error) error {
 	limit := int64(firstLimit)
 	for from := k.all(); from != ""; {

@@ -25,7 +25,8 @@ const (
 	targetBatchBytes = 1 << 20
 )
 
-// importLine is a row of standard input.
+// importLine is a row of standard input: its key in etcd, with the name of the plugin, and its
+// value.
 type importLine struct {
 	key   string
 	value []byte
@@ -39,7 +40,8 @@ var (
 )
 
 // readLines reads and checks rows, one per line: the key without the name of the plugin, a tab, and
-// the value as etcd has it. The last line must be meta, which reveals an input that was cut off.
+// the value as etcd has it. Each key may occur once. The last line must be meta: so readLines finds
+// an input that was cut off.
 func readLines(in io.Reader, k keys) (rows []importLine, found counts, err error) {
 	from, lineOf := bufio.NewReaderSize(in, 1<<20), map[string]int{}
 	for {
@@ -128,7 +130,7 @@ func batchSize(rows []importLine) int {
 	return len(rows)
 }
 
-// importer is a running import.
+// importer is the state of one import: its settings, and what it has written so far.
 type importer struct {
 	client  *clientv3.Client
 	keys    keys
@@ -140,8 +142,9 @@ type importer struct {
 	firstMade int64
 }
 
-// checkEmpty checks that etcd answers and has no key of the plugin. Each transaction compares this
-// again.
+// checkEmpty checks that etcd answers and has no key of the plugin. Such a key may still be made
+// later, so each transaction compares again that the lock has no key and that its own keys do not
+// exist.
 func (i *importer) checkEmpty() error {
 	r, k := &snapshot{client: i.client, timeout: i.timeout}, i.keys
 	locks, err := r.get(k.locks(), clientv3.WithRange(rangeEnd(k.locks())), clientv3.WithLimit(1))
@@ -155,7 +158,8 @@ func (i *importer) checkEmpty() error {
 	return i.found(locks.Kvs, there.Kvs)
 }
 
-// found returns an error if a key of the lock or another key of the plugin exists.
+// found returns an error about the first key in locks, the found keys of the lock, or in there,
+// other found keys of the plugin. Without found keys it returns nil.
 func (i *importer) found(locks, there []*mvccpb.KeyValue) error {
 	for _, lock := range locks {
 		return fmt.Errorf("%s: %s has the lock or waits for it, and must be stopped first",
@@ -168,13 +172,15 @@ func (i *importer) found(locks, there []*mvccpb.KeyValue) error {
 }
 
 // write makes one transaction. The first one compares that the plugin has no key, so at most one of
-// several imports continues. Each later one compares that the first key is still the key that this
-// import created. So a transaction that arrives late, after somebody has removed the rows, fails.
+// several imports continues. Each later one compares that the lock has no key, and that the first
+// key is still the key that this import created. So a transaction that arrives late, after the rows
+// were removed by hand, fails.
 func (i *importer) write(rows []importLine) error {
 	k := i.keys
 	var compares []clientv3.Cmp
 	var success []clientv3.Op
-	// On failure, read the lock, whose value names its holder, and the keys that must not exist.
+	// If a comparison fails, etcd reads the first key of the lock, whose value names its holder,
+	// and the keys that must not exist.
 	failure := []clientv3.Op{clientv3.OpGet(k.locks(), clientv3.WithRange(rangeEnd(k.locks())), clientv3.WithLimit(1))}
 	if i.written == 0 {
 		compares = append(compares, rangeEmpty(k.all(), rangeEnd(k.all())))
@@ -208,7 +214,7 @@ func (i *importer) write(rows []importLine) error {
 	return nil
 }
 
-// compareFailure returns the error that names the failed comparison.
+// compareFailure returns an error about the key that made a comparison of a transaction fail.
 func (i *importer) compareFailure(read []*pb.ResponseOp) error {
 	var there []*mvccpb.KeyValue
 	for _, part := range read[1:] {
@@ -220,7 +226,8 @@ func (i *importer) compareFailure(read []*pb.ResponseOp) error {
 	return fmt.Errorf("%s: it was removed in the meantime", i.keys.display(i.first))
 }
 
-// explainStop adds to an error how many rows an unfinished import has written.
+// explainStop adds to an error how many of all rows the unfinished import has written, and that
+// these must be removed.
 func (i *importer) explainStop(err error, all int) error {
 	_, isOpen := err.(unknownOutcome)
 	switch {

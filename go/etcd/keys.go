@@ -29,7 +29,8 @@ func (k keys) locks() string       { return k.name + "/lock/" }
 func (k keys) volumes() string     { return k.name + "/volumes/" }
 func (k keys) attachments() string { return k.name + "/attachments/" }
 
-// lock returns the key of a candidate with this lease.
+// lock returns the key with which a candidate waits for the lock or holds it. The id of its lease
+// makes the key unique.
 func (k keys) lock(id clientv3.LeaseID) string { return fmt.Sprintf("%s%x", k.locks(), id) }
 
 func (k keys) volume(number uint64) string {
@@ -46,7 +47,8 @@ func (k keys) attachment(number uint64, node string) string {
 	return k.attachmentsOf(number) + node
 }
 
-// display returns a key for a line or a reply, without the plugin's name.
+// display returns a key for a log line or a reply: without the plugin's name, and with bytes
+// escaped as in frames.Text.
 func (k keys) display(key string) string { return frames.Text(strings.TrimPrefix(key, k.all())) }
 
 // rangeEnd returns the end of the range of keys with this prefix. The prefix must not end with
@@ -67,12 +69,13 @@ var (
 	errRowTooLong = errors.New("the row is too long for a page")
 )
 
-// volumeNumber parses the key of a volume.
+// volumeNumber returns the number in the key of a volume, which must have 20 digits.
 func (k keys) volumeNumber(key string) (uint64, error) {
 	return readNumber(strings.TrimPrefix(key, k.volumes()))
 }
 
-// attachmentParts parses the key of an attachment.
+// attachmentParts returns the number of the volume and the id of the node in the key of an
+// attachment.
 func (k keys) attachmentParts(key string) (number uint64, node string, err error) {
 	digits, node, ok := strings.Cut(strings.TrimPrefix(key, k.attachments()), "/")
 	if !ok {
@@ -89,7 +92,8 @@ func (k keys) attachmentParts(key string) (number uint64, node string, err error
 
 var errUnknownKey = errors.New("no row has such a key")
 
-// row decodes the row at a key of the plugin. Keys of the lock are not rows.
+// row decodes the row at a key of the plugin. For any other key, such as a key of the lock, it
+// returns errUnknownKey.
 func (k keys) row(key string, value []byte) (tableRow, error) {
 	switch {
 	case key == k.meta():
@@ -113,8 +117,8 @@ func (k keys) row(key string, value []byte) (tableRow, error) {
 	return nil, errUnknownKey
 }
 
-// pageRow decodes a row, and also returns it as a field of a page. It refuses a row that is too
-// long for a page.
+// pageRow decodes a row, and also returns it encoded as a field of a page. It refuses a row that is
+// too long for a page.
 func (k keys) pageRow(key string, value []byte) (tableRow, []byte, error) {
 	row, err := k.row(key, value)
 	if err != nil {

@@ -12,10 +12,11 @@ import (
 	"google.golang.org/grpc"
 )
 
-// lease is a lease of etcd that is kept alive. Its expiry counts from the moment at which this
-// process sent the last request to keep it. etcd counts from the moment at which it received the
-// request, which is later, so the lease never expires in etcd before it expires here. An answer
-// that arrives late, after a stop of this process, extends it no further.
+// lease is a lease of etcd that is kept alive. Each renewal that etcd answers sets the expiry to
+// the length of the lease after the moment at which this process sent the request. etcd counts from
+// the moment at which it received the request, which is later, so the lease never expires in etcd
+// before it expires here. An answer that arrives late, for example after a stop of this process,
+// still counts from the moment of its request.
 type lease struct {
 	client *clientv3.Client
 	id     clientv3.LeaseID
@@ -42,8 +43,8 @@ const clockPause = time.Second
 
 var errLeaseOver = errors.New("its lease is over")
 
-// grantLease gets a lease of this length from etcd. It also returns the revision of etcd in the
-// answer.
+// grantLease gets a lease of this many seconds from etcd, which may make it longer. It also returns
+// the revision of etcd in the answer.
 func grantLease(ctx context.Context, client *clientv3.Client, seconds int64) (*lease, int64, error) {
 	sent := sinceBoot()
 	granted, err := client.Grant(ctx, seconds)
@@ -64,7 +65,8 @@ func (l *lease) remaining() time.Duration {
 	return l.expiry - sinceBoot()
 }
 
-// extend moves the expiry after etcd kept the lease by a request sent at that time.
+// extend sets the expiry after etcd has answered a request that was sent at this time, on the clock
+// of sinceBoot.
 func (l *lease) extend(sent time.Duration) {
 	l.mutex.Lock()
 	defer l.mutex.Unlock()
@@ -101,8 +103,8 @@ func (l *lease) waitExpired(ctx context.Context) error {
 	}
 }
 
-// renew keeps the lease until it is lost or the context ends. After a failure it opens a new
-// stream.
+// renew renews the lease in etcd until etcd reports its end (errLeaseOver) or the context ends.
+// After any other failure it opens a new stream.
 func (l *lease) renew(ctx context.Context) error {
 	for {
 		if err := l.renewStream(ctx); err == errLeaseOver || ctx.Err() != nil {
@@ -117,7 +119,8 @@ func (l *lease) renew(ctx context.Context) error {
 }
 
 // renewStream renews over one stream, four times per lease length. It gives up a stream on which an
-// answer takes longer than a quarter of the lease length.
+// answer takes longer than a quarter of the lease length. If etcd reports that the lease is over,
+// it returns errLeaseOver.
 func (l *lease) renewStream(ctx context.Context) error {
 	ctx, cancel := context.WithCancel(clientv3.WithRequireLeader(ctx))
 	defer cancel()

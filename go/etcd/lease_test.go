@@ -16,14 +16,16 @@ import (
 	"google.golang.org/grpc/status"
 )
 
-// leaseServer is an etcd that grants a lease and renews it.
+// leaseServer is an etcd that grants a lease and renews it, and records revoked leases and deleted
+// keys.
 type leaseServer struct {
 	pb.KVServer
 	pb.LeaseServer
 	// The length of the lease in seconds, and the delay of each answer.
 	length int64
 	delay  time.Duration
-	// The time of each request on the clock of sinceBoot, and the number of answers per stream.
+	// requests receives the time of each request on the clock of sinceBoot. answered is the number
+	// of answers on each stream; further requests get none.
 	requests chan time.Duration
 	answered int
 	// Errors of revocations by lease, and the revoked leases.
@@ -149,8 +151,8 @@ func TestLeaseOverAfterSleep(t *testing.T) {
 	}
 }
 
-// A lease is renewed four times in its length: a request comes a quarter of it after the last
-// answer, and not after half of it.
+// A lease is renewed four times in its length: the next request comes a quarter of the length after
+// the last answer.
 func TestRenewedInTime(t *testing.T) {
 	const length = 6 * time.Second
 	server := &leaseServer{length: 600, requests: make(chan time.Duration, 99), answered: 99}

@@ -68,7 +68,7 @@ func readCapability(message []byte) (read capability, err error) {
 	return read, err
 }
 
-// readPair decodes an entry of a map.
+// readPair decodes an entry of a map, and adds it to the map `into`.
 func readPair(message []byte, into map[string]string) error {
 	var key, value string
 	if err := readInto(message, map[protowire.Number]target{1: &key, 2: &value}); err != nil {
@@ -78,8 +78,9 @@ func readPair(message []byte, into map[string]string) error {
 	return nil
 }
 
-// readListed decodes the columns of a volume. They are fields of a CreateVolumeRequest:
-// capabilities are field 3, parameters field 4, and mutable parameters field 8.
+// readListed decodes the columns caps and params of a volume, and returns errColumns if they are
+// malformed. They are fields of a CreateVolumeRequest: capabilities are field 3, parameters field
+// 4, and mutable parameters field 8.
 func readListed(row volume) (*listedVolume, error) {
 	read := &listedVolume{volume: row, parameters: map[string]string{}, mutable: map[string]string{}}
 	err := readFields(append(append([]byte{}, row.caps...), row.params...), func(f field) error {

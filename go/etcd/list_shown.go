@@ -10,8 +10,8 @@ import (
 	"strings"
 )
 
-// sum is the number of volumes of a pool or node, and the sum of their bytes. If the sum of bytes
-// is too large, it is the greatest uint64.
+// sum is the number of volumes of a pool or node, and the sum of their bytes. A sum of bytes above
+// the greatest uint64 counts as the greatest uint64.
 type sum struct{ volumes, bytes uint64 }
 
 type sums map[string]sum
@@ -48,7 +48,8 @@ func count(volumes []*listedVolume) (pools, nodes sums) {
 // sizeUnits are the binary units of formatSize, largest first.
 var sizeUnits = []string{"EiB", "PiB", "TiB", "GiB", "MiB", "KiB"}
 
-// formatSize formats a size in the largest unit that is exact with one decimal, or else in bytes.
+// formatSize formats a size in the largest unit in which it is 1, 1.5, 2 or another multiple of one
+// half. If there is no such unit, it formats the size in bytes.
 func formatSize(bytes uint64) string {
 	for i, unit := range sizeUnits {
 		half := uint64(1) << (59 - 10*i)
@@ -117,7 +118,7 @@ func (c capability) String() string {
 	return formatWord(c.fsType) + ":" + c.modeName()
 }
 
-// cells returns the row of a volume in the table.
+// cells returns the cells of a volume, in the order of the columns of writeTable.
 func (v *listedVolume) cells() []string {
 	var capabilities, nodes []string
 	for _, one := range v.capabilities {
@@ -133,8 +134,8 @@ func (v *listedVolume) cells() []string {
 	}
 }
 
-// maxCellWidth is the widest cell that widens its column. Without this limit one long cell would
-// add spaces to every row.
+// maxCellWidth is the width in bytes of the longest cell that widens its column. Without this limit
+// one long cell would add spaces to every row.
 const maxCellWidth = 80
 
 // writeRows writes rows in columns with two spaces between them. A cell that is longer than its

@@ -234,7 +234,7 @@ func TestFormatSize(t *testing.T) {
 	}
 }
 
-// Sums stop at the greatest number.
+// A sum of bytes above the greatest uint64 stays the greatest uint64.
 func TestSums(t *testing.T) {
 	s := sums{}
 	s.add("p", 1<<63)

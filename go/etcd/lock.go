@@ -14,8 +14,8 @@ import (
 	"fomaheti/frames"
 )
 
-// Pauses between two reads of the queue. A waiting program reads more often: its turn to lead may
-// come at any time.
+// Pauses between two reads of the queue; leadingPause is a mean. A waiting program reads more
+// often: its turn to lead may come at any time.
 const (
 	waitingPause = 250 * time.Millisecond
 	leadingPause = time.Second
@@ -86,8 +86,8 @@ func (c *candidate) reportError(line string, err error) {
 }
 
 // campaign gets a lease, puts a key into the queue and leads when its turn comes. It returns nil
-// after the lease or the key is lost. If it gets no lease, it returns the error. Each campaign
-// reads the certificates and the password again.
+// after the term has ended, for any reason. If it gets no connection or no lease, it returns the
+// error. Each campaign reads the certificates and the password again.
 func (c *candidate) campaign(parent context.Context) error {
 	client, err := c.members.connect()
 	if err != nil {
@@ -133,8 +133,8 @@ func (c *candidate) newTerm(ctx context.Context, end context.CancelFunc, client 
 }
 
 // releaseLeases revokes the leases of earlier terms, so that the next candidate need not wait until
-// they expire. It also deletes their keys: a key that somebody put by hand without the lease would
-// stay for ever. If etcd does not answer, the next campaign tries again.
+// they expire. It also deletes their keys: a key that was put by hand without the lease would stay
+// for ever. If etcd does not answer, the next campaign tries again.
 func (c *candidate) releaseLeases(client *clientv3.Client) {
 	ctx, cancel := context.WithTimeout(context.Background(), c.opts.timeout)
 	defer cancel()
@@ -157,7 +157,8 @@ var (
 	errEnding  = errors.New("it was asked to end")
 )
 
-// holdLock puts the key, and reads the queue until the term ends. It returns the reason of the end.
+// holdLock puts the key, reads the queue, and leads when the key of this program is the first one.
+// It returns when the term ends, with the reason.
 func (c *candidate) holdLock(t *term) error {
 	hasKey, isLeading := false, false
 	for t.ctx.Err() == nil {
@@ -175,7 +176,7 @@ func (c *candidate) holdLock(t *term) error {
 		case err != nil && !isLeading:
 			c.reportWaiting(err)
 		case err != nil:
-			// The lease decides whether this program still leads.
+			// etcd did not answer this read. The program still leads until its lease ends.
 		case isLeading && (queue.own != t.created || queue.first != t.created), hasKey && queue.own == 0:
 			return errKeyGone
 		case queue.own == 0:
@@ -196,8 +197,8 @@ func (c *candidate) holdLock(t *term) error {
 	return t.endReason()
 }
 
-// reportWaiting reports why the program has no lock, and refuses calls with this reason. It does
-// nothing without an error.
+// reportWaiting writes a line with err, the reason why the program has no lock, and sets the
+// refusal of calls to this reason. It does nothing if err is nil.
 func (c *candidate) reportWaiting(err error) {
 	if err != nil {
 		c.reportError(fmt.Sprintf("no lock: %v", err), err)
@@ -221,7 +222,9 @@ func (c *candidate) lead(t *term, queue queue, isLeading bool) bool {
 	return true
 }
 
-// stopLeading ends the term, if there is one, and closes the connection of csid at once.
+// stopLeading ends the use of the current term, and sets the refusal of later calls to answer. If
+// there was a term, it also closes the connection of csid at once. It writes a line with the
+// reason.
 func (c *candidate) stopLeading(reason error, answer refusal) {
 	before, _ := c.state.current()
 	c.state.set(nil, answer)

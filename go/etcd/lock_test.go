@@ -12,8 +12,9 @@ import (
 	"go.etcd.io/etcd/mvcc/mvccpb"
 )
 
-// A leading program that sees an older snapshot closes the connection of csid and refuses its
-// calls, whatever it sees later. It does not repeat its last line.
+// A leading program that sees an older snapshot closes the connection of csid and refuses the calls
+// of csid, also after later answers with higher revisions. The program does not repeat its last
+// line.
 func TestOlderWhileLeading(t *testing.T) {
 	const older = "etcd is at revision 90, and 110 was answered: it was restored from an older snapshot, and volumes " +
 		"may be missing; --accept-older goes on"
@@ -45,20 +46,20 @@ func TestOlderWhileLeading(t *testing.T) {
 	}
 }
 
-// queueServer is an etcd that accepts each key. It answers reads of the queue with looks in turn,
-// and then ends the term.
+// queueServer is an etcd that accepts each transaction. It answers each read of the queue with the
+// next one of looks. After the last one it ends the term.
 type queueServer struct {
 	pb.KVServer
 	looks    []look
 	requests int
 	state    *leadership
 	end      context.CancelFunc
-	// Whether this program led at each read.
+	// For each read, true if this program led.
 	led []bool
 }
 
-// look is an answer: the create revisions of another key and of this program's key, 0 for a missing
-// key; or an error.
+// look is an answer to a read of the queue: the create revisions of another key and of this
+// program's key, 0 for a missing key; or an error.
 type look struct {
 	others, own int64
 	err         error
@@ -92,8 +93,8 @@ func (s *queueServer) Range(context.Context, *pb.RangeRequest) (*pb.RangeRespons
 	return read, nil
 }
 
-// The end of the key ends the term, whether this program leads or waits. A failed read does not,
-// and a leading program keeps leading.
+// If the key is gone, the term ends, both while this program leads and while it waits. A failed
+// read ends no term, and a leading program keeps leading.
 func TestHoldLock(t *testing.T) {
 	failed := errors.New("any")
 	cases := []struct {

@@ -24,18 +24,18 @@ const prefix = "csid-etcd: "
 type logger struct {
 	out    io.Writer
 	isJSON bool
-	// Whether a line of text begins with its time and level.
+	// True if a line of text begins with its time and level.
 	isTimed bool
 }
 
-// jsonLine is a line in JSON.
+// jsonLine has the fields of a line in JSON.
 type jsonLine struct {
 	Time    time.Time `json:"time"`
 	Level   string    `json:"level"`
 	Message string    `json:"message"`
 }
 
-// line returns a line with its end.
+// line returns a line of this level, with its newline.
 func (l *logger) line(level, text string) string {
 	now := time.Now().UTC()
 	if l.isJSON {
@@ -59,7 +59,7 @@ func (l *logger) warnf(format string, args ...interface{}) { l.write(logqueue.Wa
 // fails writes why the program ends.
 func (l *logger) fails(err error) { l.write(logqueue.Error, "%v", []interface{}{err}) }
 
-// Write writes a line of a package that uses Go's log, as a warning.
+// Write writes a line of a library that uses Go's log, as a warning.
 func (l *logger) Write(line []byte) (int, error) {
 	l.warnf("%s", strings.TrimSuffix(string(line), "\n"))
 	return len(line), nil
@@ -67,7 +67,7 @@ func (l *logger) Write(line []byte) (int, error) {
 
 // newLogger returns the log of the program, and the queue of its lines. A slow reader of standard
 // error must not delay the renewal of the lock, so lines go through a queue. This includes lines
-// that packages write with Go's log. etcd's client turns gRPC's log off.
+// that libraries write with Go's log. etcd's client turns gRPC's log off.
 func newLogger(out io.Writer, format string, isTimed bool) (*logger, *logqueue.Queue) {
 	l := &logger{isJSON: format == jsonLines, isTimed: isTimed}
 	queue := logqueue.New(out, func(count uint64) string { return l.line(logqueue.Warn, logqueue.Report(count)) })

@@ -10,7 +10,7 @@ import (
 	"time"
 )
 
-// The lines of the program and of packages in each format, and the level of each.
+// Lines of the program and of libraries are written in each format, with their levels.
 func TestLines(t *testing.T) {
 	flags, prefix, out := log.Flags(), log.Prefix(), log.Writer()
 	defer func() {

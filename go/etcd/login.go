@@ -25,8 +25,9 @@ type login struct {
 	token          string
 }
 
-// GetRequestMetadata implements credentials.PerRPCCredentials. It adds no token to a request for a
-// new token: etcd refuses that request if the old token is no longer valid.
+// GetRequestMetadata returns the token as metadata of a call, or nothing if there is no token. A
+// request for a new token gets no token: etcd refuses that request if the old token is no longer
+// valid.
 func (l *login) GetRequestMetadata(_ context.Context, services ...string) (map[string]string, error) {
 	l.mutex.Lock()
 	defer l.mutex.Unlock()
@@ -39,8 +40,8 @@ func (l *login) GetRequestMetadata(_ context.Context, services ...string) (map[s
 // RequireTransportSecurity returns false: an etcd without TLS may have users.
 func (l *login) RequireTransportSecurity() bool { return false }
 
-// renew gets a new token. If authentication is disabled in etcd, no token is needed, and renew
-// succeeds.
+// renew gets a new token. Without --user, or if authentication is disabled in etcd, no token is
+// needed, and renew succeeds.
 func (l *login) renew(ctx context.Context, conn *grpc.ClientConn) error {
 	if l.user == "" {
 		return nil
@@ -79,8 +80,8 @@ func (l *login) unary(ctx context.Context, method string, request, reply interfa
 	return invoke(ctx, method, request, reply, conn, options...)
 }
 
-// stream is an interceptor that gets a new token for each stream. The token lasts as long as the
-// stream.
+// stream is an interceptor that gets a new token before it opens a stream, since the token of an
+// earlier call may have expired.
 func (l *login) stream(ctx context.Context, description *grpc.StreamDesc, conn *grpc.ClientConn, method string,
 	open grpc.Streamer, options ...grpc.CallOption) (grpc.ClientStream, error) {
 	if err := l.renew(ctx, conn); err != nil {

@@ -1,6 +1,6 @@
 // csid-etcd is the change store of a csid whose rows are in etcd. It reads rows and makes changes
 // for this csid while it holds a lock in etcd. Several csid-etcd can run, each with its own csid.
-// Only the holder of the lock serves. When it loses the lock, another one takes over.
+// Only the holder of the lock serves. When the holder loses the lock, another csid-etcd takes over.
 package main
 
 import (
@@ -29,7 +29,7 @@ const (
 // version is set by go/etcd/build from the file VERSION.
 var version = "unknown"
 
-// lastLinesTime is how long the program waits at its end until its last lines are written.
+// lastLinesTime is the longest wait at the end of the program until its last lines are written.
 const lastLinesTime = time.Second
 
 func main() {
@@ -67,8 +67,8 @@ func run(opts options, err error, lines *logger) int {
 		lines.fails(fmt.Errorf("--revision: %w", err))
 		return exitFailure
 	}
-	// Calls are served in order, so a second processor would only have to be woken at each step of
-	// a call.
+	// Calls are served one at a time, so a second processor would only have to be woken at each
+	// step of a call.
 	if os.Getenv("GOMAXPROCS") == "" {
 		runtime.GOMAXPROCS(1)
 	}
@@ -118,7 +118,8 @@ func startService(opts options, socket *sockets.Socket, revisions *revisions, li
 	return s
 }
 
-// end ends the running call, then releases the lock, and then saves the revision.
+// end takes no further calls and waits for the running one, then releases the lock, and then saves
+// the revision.
 func (s *service) end() {
 	s.socket.Close()
 	s.server.end()
@@ -128,7 +129,8 @@ func (s *service) end() {
 	<-s.saved
 }
 
-// serve campaigns for the lock and answers csid until a signal arrives. It returns the exit status.
+// serve campaigns for the lock and answers csid until a signal arrives or taking connections fails.
+// Then it ends, at once if a further signal arrives, and returns the exit status.
 func serve(opts options, socket *sockets.Socket, revisions *revisions, stop <-chan os.Signal, lines *logger) int {
 	s := startService(opts, socket, revisions, lines)
 	defer s.cancel()

@@ -28,8 +28,8 @@ type members struct {
 	last certificates
 	// The endpoint of the options for each address that was reached.
 	endpoints map[string]string
-	// By endpoint: the error of the last connection, and the last error in an answer. A successful
-	// call removes both.
+	// By endpoint: unreached has the reason why the last connection failed, and refused has the
+	// error in the last answer. A successful call removes both.
 	unreached, refused map[string]string
 }
 
@@ -62,7 +62,8 @@ func (m *members) certificates() (certificates, error) {
 }
 
 // watchCertificates reads the files until the context ends, so that a change is reported even while
-// no connection is made. Once a day it reports certificates that end soon.
+// no connection is made. Once a day it reports certificates that have expired or end soon. Without
+// TLS it returns at once.
 func (m *members) watchCertificates(ctx context.Context) {
 	var warned time.Time
 	for m.isSecure() && ctx.Err() == nil {
@@ -116,7 +117,8 @@ func (m *members) noteUnreached(ctx context.Context, to string, err error) {
 	m.unreached[to] = reason
 }
 
-// recordAnswer is an interceptor that notes the member that answered a call, and its error.
+// recordAnswer is an interceptor that notes the error of the member that answered a call. After a
+// call without an error, it forgets the noted errors of this member.
 func (m *members) recordAnswer(ctx context.Context, method string, request, reply interface{}, conn *grpc.ClientConn,
 	invoke grpc.UnaryInvoker, options ...grpc.CallOption) error {
 	var from peer.Peer
@@ -136,9 +138,9 @@ func (m *members) recordAnswer(ctx context.Context, method string, request, repl
 	return err
 }
 
-// membersOf names the members that caused an error, in parentheses. If no member answered, it names
-// the unreachable members with their reasons. Otherwise it names the members whose last error this
-// is. The result is empty for an error that does not come from etcd.
+// membersOf names the members that caused an error, in parentheses after a space. If no member
+// answered, it names the unreachable members with their reasons. Otherwise it names the members
+// whose last error this is. The result is empty for an error that does not come from etcd.
 func (m *members) membersOf(err error) string {
 	if m == nil || err == nil {
 		return ""
@@ -163,7 +165,8 @@ func (m *members) membersOf(err error) string {
 	return " (" + strings.Join(found, "; ") + ")"
 }
 
-// reasons joins the reasons why members were unreachable. The result is empty if a member answered.
+// reasons joins the reasons why members were unreachable. The result is empty unless isNoAnswer is
+// true of the error.
 func (m *members) reasons(err error) string {
 	if m == nil || err == nil || !isNoAnswer(err) {
 		return ""
@@ -177,7 +180,8 @@ func (m *members) reasons(err error) string {
 	return strings.Join(found, ";")
 }
 
-// isNoAnswer reports whether the error means that no member answered in time.
+// isNoAnswer reports whether the error means that no member answered in time: UNAVAILABLE, a
+// deadline, or the end of the lease.
 func isNoAnswer(err error) bool {
 	if unknown, ok := err.(unknownOutcome); ok {
 		err = unknown.err
@@ -197,11 +201,11 @@ func (m *members) credentials() credentials.TransportCredentials {
 	return memberCredentials{credentials.NewTLS(nil), m}
 }
 
-// Clone implements credentials.TransportCredentials.
+// Clone returns credentials for the same members.
 func (c memberCredentials) Clone() credentials.TransportCredentials { return c.members.credentials() }
 
-// ClientHandshake implements credentials.TransportCredentials. The name to verify is the
-// endpoint's.
+// ClientHandshake reads the certificate files, and makes a TLS connection to a member over raw. The
+// certificate of the member must name the host of the endpoint. A failure is noted.
 func (c memberCredentials) ClientHandshake(ctx context.Context, _ string, raw net.Conn) (
 	net.Conn, credentials.AuthInfo, error) {
 	to := c.members.endpointOf(raw.RemoteAddr())
@@ -220,8 +224,8 @@ func (c memberCredentials) ClientHandshake(ctx context.Context, _ string, raw ne
 	return &memberConn{conn, to, used, c.members}, info, nil
 }
 
-// memberConn notes a TLS alert: a member that refuses this program's certificate sends it after the
-// handshake.
+// memberConn notes a TLS alert: a member that refuses this program's certificate sends an alert
+// after the handshake.
 type memberConn struct {
 	net.Conn
 	to      string
@@ -229,7 +233,8 @@ type memberConn struct {
 	members *members
 }
 
-// Read implements net.Conn.
+// Read reads from the connection, and notes a TLS alert as the reason why the member is
+// unreachable.
 func (c *memberConn) Read(into []byte) (int, error) {
 	count, err := c.Conn.Read(into)
 	var failure *net.OpError

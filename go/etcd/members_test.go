@@ -18,8 +18,9 @@ import (
 	"google.golang.org/grpc/status"
 )
 
-// A line names the members that caused an error: those that refused, those that were unreachable,
-// or all of them if none answered. It names none for an error that does not come from etcd.
+// A line names the members that caused an error: the members that refused, the members that were
+// unreachable, or all members if none answered. It names none for an error that does not come from
+// etcd.
 func TestMembersOf(t *testing.T) {
 	m := newMembers(options{endpoints: []string{"a:1", "b:2", "c:3"}}, t.Logf)
 	m.refused["b:2"] = "etcdserver: permission denied"
@@ -53,8 +54,8 @@ func TestMembersOf(t *testing.T) {
 	}
 }
 
-// A line names a member that refuses connections. It is repeated after the reason has changed, and
-// leaves the reason out after an answer.
+// A line names a member that refuses connections. The line is repeated after the reason has
+// changed. After an answer of the member the next line has no reason.
 func TestUnreachedMember(t *testing.T) {
 	listener, err := net.Listen("tcp", "127.0.0.1:0")
 	if err != nil {
@@ -113,8 +114,8 @@ func (s *tokenServer) Txn(ctx context.Context, request *pb.TxnRequest) (*pb.TxnR
 	return s.failingServer.Txn(ctx, request)
 }
 
-// A user gets a token at the start, and another one if etcd no longer knows it. Then the
-// transaction is made once.
+// A user gets a token when the client is made, and another one if etcd no longer knows this token.
+// Then the transaction is made once. A wrong password is an error of connect.
 func TestLogin(t *testing.T) {
 	server := &tokenServer{}
 	password := filepath.Join(t.TempDir(), "password")

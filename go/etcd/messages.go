@@ -25,8 +25,8 @@ type field struct {
 	bytes  []byte
 }
 
-// readFields calls handle for each field of a message in order. A message with a group is
-// malformed.
+// readFields calls handle for each field of a message, in the order of the message, until handle
+// fails. A message with a group is malformed.
 func readFields(message []byte, handle func(field) error) error {
 	for len(message) > 0 {
 		number, kind, size := protowire.ConsumeTag(message)
@@ -57,7 +57,8 @@ func readFields(message []byte, handle func(field) error) error {
 type target interface{}
 
 // readInto decodes a message into the targets by field number. The last of repeated fields counts.
-// Unknown fields and fields of another wire type are skipped.
+// Unknown fields and fields of another wire type are skipped. A text that is not UTF-8 makes the
+// message malformed.
 func readInto(message []byte, targets map[protowire.Number]target) error {
 	return readFields(message, func(f field) error {
 		switch into := targets[f.number].(type) {
@@ -85,7 +86,7 @@ func readInto(message []byte, targets map[protowire.Number]target) error {
 	})
 }
 
-// readToken decodes the message of Read.
+// readToken returns the token in the message of Read. It is empty for the first page.
 func readToken(message []byte) (token []byte, err error) {
 	err = readInto(message, map[protowire.Number]target{1: &token})
 	return token, err
@@ -121,7 +122,8 @@ var changeMessages = map[protowire.Number]func() (change, map[protowire.Number]t
 	},
 }
 
-// readChange decodes the message of Commit, which has exactly one change.
+// readChange decodes the message of Commit. It refuses a message without a known change, or with
+// changes of two kinds.
 func readChange(message []byte) (change, error) {
 	var read change
 	var targets map[protowire.Number]target
@@ -149,7 +151,8 @@ func readChange(message []byte) (change, error) {
 	return read, nil
 }
 
-// Encoding. Each field is written in ascending order, even if it is 0 or empty.
+// The functions below encode rows as messages. They write the fields in ascending order, even if a
+// field is 0 or empty.
 
 func appendNumber(message []byte, number protowire.Number, value uint64) []byte {
 	return protowire.AppendVarint(protowire.AppendTag(message, number, protowire.VarintType), value)

@@ -7,8 +7,8 @@ import (
 	"testing"
 )
 
-// Messages of csid written by hand with all fields, even 0 and empty ones; and others that proto3
-// allows.
+// Changes are decoded from messages as csid writes them, with all fields, even 0 and empty ones,
+// and from other messages that proto3 allows. All messages are written by hand.
 func TestReadChange(t *testing.T) {
 	caps := fromHex(t, "1a060a001a020801")
 	cases := []struct {

@@ -11,7 +11,8 @@ import (
 	"go.etcd.io/etcd/clientv3"
 )
 
-// counts summarizes rows. Its text equals csid's summary of a file.
+// counts summarizes rows: the numbers of volumes and attachments, and the row of meta. Its text
+// equals csid's summary of a file.
 type counts struct {
 	volumes, attachments int
 	meta                 meta
@@ -28,7 +29,7 @@ func (c *counts) add(row tableRow) {
 	}
 }
 
-// String is the summary in a line.
+// String returns the summary as a line, without a newline.
 func (c counts) String() string {
 	return fmt.Sprintf("volumes %d, attachments %d, next number %d, format %d", c.volumes, c.attachments, c.meta.next,
 		c.meta.format)
@@ -43,9 +44,10 @@ func checkFormat(row meta) error {
 	return nil
 }
 
-// runOnce makes the first row, imports, exports or lists rows. It needs no lock and no socket.
+// runOnce makes the first row, imports, exports or lists rows, and returns the exit status. It
+// needs no lock and no socket.
 func runOnce(opts options, lines *logger) int {
-	// The output is the result alone, without lines on certificates.
+	// Such a command writes its result alone, without lines about certificates.
 	m := newMembers(opts, func(string, ...interface{}) {})
 	var option string
 	var err error
@@ -72,7 +74,9 @@ func runOnce(opts options, lines *logger) int {
 
 var errUnfinishedImport = errors.New("rows are there, and meta is not: an import was not ended")
 
-// makeNew makes the first row unless rows exist.
+// makeNew makes the first row, and prints that it did. If the row of meta exists already, it prints
+// this row. If other keys of the plugin exist without the row of meta, makeNew returns
+// errUnfinishedImport.
 func makeNew(m *members, to io.Writer) error {
 	opts := m.opts
 	client, err := m.connect()

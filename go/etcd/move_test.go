@@ -102,7 +102,8 @@ func TestReadLinesErrors(t *testing.T) {
 	}
 }
 
-// A transaction is limited in rows and in bytes. A longer row has a transaction of its own.
+// A transaction is limited in rows and in bytes. A row that is longer than the limit in bytes has
+// its own transaction.
 func TestBatchSize(t *testing.T) {
 	cases := []struct {
 		name  string
@@ -158,8 +159,7 @@ func TestStatements(t *testing.T) {
 	}
 }
 
-// A transaction of an import goes to etcd once. If its outcome is unknown, the line does not say
-// that nothing was written.
+// A transaction of an import goes to etcd once. If its outcome is unknown, the error says so.
 func TestImportNotKnown(t *testing.T) {
 	server := &failingServer{errors: []error{status.Error(codes.Canceled, "any")}}
 	rows, _, err := readLines(strings.NewReader(volumeLine+metaLine), sampleKeys)
@@ -203,8 +203,8 @@ func TestExplainStop(t *testing.T) {
 	}
 }
 
-// Rows are exported once each, all at the revision of the first answer, whatever is written at the
-// same time. If that revision is compacted, the export fails.
+// Each row is exported once, all rows at the revision of the first answer, although etcd's revision
+// rises during the export. If that revision is compacted, the export fails.
 func TestExportedOnce(t *testing.T) {
 	const count = 1000
 	server := &rowServer{rows: map[string]string{sampleKeys.meta(): `{"format_no":2,"next_number":1001}`}}

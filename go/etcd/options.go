@@ -39,7 +39,8 @@ const (
 // maxID is the greatest length of --id in bytes.
 const maxID = 128
 
-// options holds the parsed command line.
+// options holds the parsed command line. In the result of readOptions, name is always the name of
+// the plugin, and filter has what --list selects.
 type options struct {
 	name         string
 	listen       string
@@ -97,8 +98,9 @@ func readOptions(args []string, out io.Writer) (options, error) {
 	return opts, check(opts)
 }
 
-// setFilter applies to --list, with which --id is the id of a volume. With --plugin, --name is the
-// name of a volume, as in csid --list-tables. Without --plugin, --name is the name of the plugin.
+// setFilter completes filter for --list, where --id is the id of a volume. With --plugin, --name is
+// the name of a volume, as in csid --list-tables. Without --plugin, --name is the name of the
+// plugin.
 func (opts *options) setFilter() error {
 	if !opts.isList {
 		return nil
@@ -160,8 +162,8 @@ func (opts *options) addOneShotFlags(flags *flag.FlagSet) {
 	flags.BoolVar(&opts.isJSON, "json", false, "list in JSON, with a volume a line")
 }
 
-// oneShotFlags do one thing and end the program. listFlags go with --list. servingFlags go with a
-// program that keeps running and answers csid.
+// oneShotFlags make the program do one thing and end. listFlags go with --list. servingFlags go
+// with a program that keeps running and answers csid.
 var (
 	oneShotFlags = map[string]bool{"new": true, "export": true, "import": true, "list": true}
 	listFlags    = map[string]bool{"plugin": true, "volume": true, "pool": true, "node": true, "json": true}
@@ -169,13 +171,13 @@ var (
 		"existing": true, "log-format": true}
 )
 
-// isOneShot reports whether the program does one thing and ends.
+// isOneShot reports whether a one-shot flag was given: then the program does one thing and ends.
 func (opts options) isOneShot() bool {
 	return opts.isNew || opts.isExport || opts.isImport || opts.isList
 }
 
-// checkOneShot refuses a second one-shot flag, a serving flag next to a one-shot flag (except --id
-// with --list), and a flag of --list without --list.
+// checkOneShot returns an error for a second one-shot flag, a serving flag next to a one-shot flag
+// (except --id with --list), and a flag of --list without --list.
 func checkOneShot(flags *flag.FlagSet) (err error) {
 	var once string
 	flags.Visit(func(f *flag.Flag) {
@@ -212,7 +214,7 @@ func defaultID() string {
 // nameForm matches the plugin names that CSI allows.
 var nameForm = regexp.MustCompile(`^[A-Za-z0-9]([A-Za-z0-9.-]{0,61}[A-Za-z0-9])?$`)
 
-// check refuses missing options and values out of range.
+// check refuses missing options, malformed values and values out of range.
 func check(opts options) error {
 	switch {
 	case opts.name == "":

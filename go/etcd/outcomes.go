@@ -13,7 +13,8 @@ import (
 	"fomaheti/frames"
 )
 
-// refusal is an answer other than OK: the change was not made and never will be.
+// refusal is an error that csid gets as a reply with this code and text: the change was not made
+// and never will be.
 type refusal struct {
 	code codes.Code
 	text string
@@ -22,7 +23,8 @@ type refusal struct {
 // Error returns the text of the reply.
 func (r refusal) Error() string { return r.text }
 
-// refuse returns a FAILED_PRECONDITION: a comparison failed, or this program does not lead.
+// refuse returns a refusal with FAILED_PRECONDITION, for example if a comparison failed or this
+// program does not lead.
 func refuse(format string, args ...interface{}) refusal {
 	return refusal{codes.FailedPrecondition, frames.Text(fmt.Sprintf(format, args...))}
 }
@@ -31,7 +33,7 @@ func refuse(format string, args ...interface{}) refusal {
 // call gets no reply.
 type unknownOutcome struct{ err error }
 
-// Error returns a line that the outcome of a change is unknown, with the reason.
+// Error returns "it is not known whether it was made: " and the reason.
 func (o unknownOutcome) Error() string {
 	return "it is not known whether it was made: " + o.err.Error()
 }
@@ -55,7 +57,7 @@ var certainRefusals = map[error]codes.Code{
 }
 
 // gRPC's texts for a message that is too long for this client to send, or for the server to
-// receive. In both cases the server has not looked at it.
+// receive. In both cases the server has not looked at the message.
 const (
 	tooLongToSend = "trying to send message larger than max"
 	tooLongToTake = "grpc: received message larger than max"
@@ -84,7 +86,8 @@ func notMade(err error) (refusal, bool) {
 // sends again only calls that no server has processed: calls without a connection, and calls that a
 // server refused as unprocessed.
 
-// attempt is the result of the last attempt to send a transaction. It lives in the call's context.
+// attempt is the result of the last attempt to send a transaction; err is nil before the first
+// attempt. It lives in the call's context.
 type attempt struct{ err error }
 
 type attemptKey struct{}
@@ -94,7 +97,7 @@ func withSendOnce(ctx context.Context) context.Context {
 }
 
 // sendOnce is an interceptor below the retries of etcd's client. It lets a transaction through a
-// second time only if etcd refused its token; etcd's client has a new token by then.
+// second time only if etcd refused the token of the first attempt. By then login has a new token.
 func sendOnce(ctx context.Context, method string, request, reply interface{}, conn *grpc.ClientConn,
 	invoke grpc.UnaryInvoker, options ...grpc.CallOption) error {
 	last, isOnce := ctx.Value(attemptKey{}).(*attempt)

@@ -18,7 +18,8 @@ import (
 	"google.golang.org/grpc/status"
 )
 
-// Only these errors prove that a transaction was not made.
+// The errors of the first two codes prove that a transaction was not made. The errors below
+// codes.OK prove nothing.
 func TestNotMade(t *testing.T) {
 	exhausted := func(text string) error { return status.Error(codes.ResourceExhausted, text) }
 	cases := map[codes.Code][]error{
@@ -56,8 +57,8 @@ func TestNotMade(t *testing.T) {
 	}
 }
 
-// failingServer is an etcd that counts transactions and answers them with errors in turn, and then
-// with OK.
+// failingServer is an etcd that counts transactions. It answers each with the next one of errors,
+// and after the last one with OK.
 type failingServer struct {
 	pb.KVServer
 	errors   []error
@@ -102,8 +103,8 @@ func serveEtcd(t *testing.T, kv pb.KVServer) (address string) {
 	return listener.Addr().String()
 }
 
-// startServer starts a server and returns a client with that many endpoints, all of them this
-// server.
+// startServer starts a server, and returns a client. The client has as many endpoints as members
+// says, and each is this server.
 func startServer(t *testing.T, kv pb.KVServer, members int, options ...grpc.DialOption) *clientv3.Client {
 	t.Helper()
 	address := serveEtcd(t, kv)

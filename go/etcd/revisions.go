@@ -23,7 +23,8 @@ type revisions struct {
 	path     string
 	mutex    sync.Mutex
 	greatest int64
-	// The lower revision, once etcd had one, and the refusal that reports it.
+	// older is the refusal that reports a lower revision of etcd, or nil if none was seen. lower is
+	// this lower revision.
 	lower int64
 	older error
 	// The text in the file.
@@ -32,8 +33,8 @@ type revisions struct {
 	olderSeen chan struct{}
 }
 
-// openRevisions reads the file. With acceptOlder it ignores the contents, and the next save
-// replaces them.
+// openRevisions reads the file. A missing file counts as revision 0, and a malformed file is an
+// error. With acceptOlder it does not read the file, and the next save replaces the contents.
 func openRevisions(path string, acceptOlder bool) (*revisions, error) {
 	r := &revisions{path: path, olderSeen: make(chan struct{}, 1)}
 	if path == "" || acceptOlder {
@@ -56,7 +57,7 @@ func openRevisions(path string, acceptOlder bool) (*revisions, error) {
 
 // text returns the line of the file: the greatest revision and, if etcd had a lower one, a space
 // and the lower revision. So the refusal survives a restart, even after etcd's revision has risen
-// again. It rises with each put of the key of the lock.
+// again: it rises with each put of the key of the lock.
 func (r *revisions) text() string {
 	if r.older != nil {
 		return fmt.Sprintf("%d %d\n", r.greatest, r.lower)
@@ -111,7 +112,7 @@ func olderRefusal(answered, revision int64) error {
 		"may be missing; --accept-older goes on", revision, answered)
 }
 
-// record notes the revision of an answer to csid.
+// record notes the revision of an answer to csid in greatest, if it is greater.
 func (r *revisions) record(revision int64) {
 	r.mutex.Lock()
 	defer r.mutex.Unlock()
@@ -154,7 +155,7 @@ func (r *revisions) save() error {
 	return nil
 }
 
-// replaceFile writes PATH.new and renames it to PATH.
+// replaceFile writes and synchronises PATH.new, renames it to PATH, and synchronises the folder.
 func replaceFile(path string, text []byte) error {
 	file, err := files.Create(path+".new", 0o600)
 	if err != nil {

@@ -13,7 +13,7 @@ import (
 	"golang.org/x/sys/unix"
 )
 
-// openOrFail opens the file of the revision.
+// openOrFail calls openRevisions, and fails the test after an error.
 func openOrFail(t *testing.T, path string, acceptOlder bool) *revisions {
 	t.Helper()
 	r, err := openRevisions(path, acceptOlder)
@@ -78,7 +78,8 @@ func TestRevisions(t *testing.T) {
 	}
 }
 
-// An older etcd is accepted for good, even by a program that answers nothing.
+// With --accept-older the revision in the file is forgotten for good, even if the program ends
+// before it answers csid.
 func TestAcceptOlder(t *testing.T) {
 	path := filepath.Join(t.TempDir(), "revision")
 	if err := os.WriteFile(path, []byte("112 111\n"), 0o600); err != nil {
@@ -153,8 +154,8 @@ func TestBadRevisionFile(t *testing.T) {
 	})
 }
 
-// After a failure the file is written later, even without a new answer. It is replaced as a whole:
-// a crash leaves the old text or the new one.
+// After a failure the file is written later, even without a new answer. The file is replaced as a
+// whole: a crash leaves the old text or the new one.
 func TestSaveAgain(t *testing.T) {
 	folder := filepath.Join(t.TempDir(), "none")
 	r := &revisions{path: filepath.Join(folder, "revision")}
@@ -246,7 +247,7 @@ func TestLinkIsNotFollowed(t *testing.T) {
 	wantFile(t, path, "7\n")
 }
 
-// Each failure after a success is reported once.
+// Several failures in a row are reported once. The first failure after a success is reported again.
 func TestFailuresAreReported(t *testing.T) {
 	folder := filepath.Join(t.TempDir(), "none")
 	r := &revisions{path: filepath.Join(folder, "revision"), olderSeen: make(chan struct{})}
@@ -280,7 +281,7 @@ func TestFailuresAreReported(t *testing.T) {
 	<-done
 }
 
-// The file is written at the end, and repeated failures are reported once.
+// saveUntil writes the file a last time at the end. Several failures in a row are reported once.
 func TestKeepRevisions(t *testing.T) {
 	folder := filepath.Join(t.TempDir(), "none")
 	r := &revisions{path: filepath.Join(folder, "revision")}

@@ -39,7 +39,7 @@ type tableRow interface {
 	encoded() []byte
 	message() []byte
 	field() protowire.Number
-	// statement is the SQL statement that adds the row to a file.
+	// statement returns the SQL statement that puts the row into new tables of csid.
 	statement() string
 }
 
@@ -209,7 +209,8 @@ func skipField(fields []byte) (rest []byte, ok bool) {
 	return fields[1+size:], true
 }
 
-// replaceMutable returns params with other mutable parameters. ok is false if params is malformed.
+// replaceMutable returns params with other mutable parameters. ok is false if splitParams refuses
+// params.
 func replaceMutable(params, mutable []byte) (replaced []byte, ok bool) {
 	parameters, _, ok := splitParams(params)
 	if !ok {

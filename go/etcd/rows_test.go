@@ -84,7 +84,7 @@ func TestEncodeAttachment(t *testing.T) {
 	}
 }
 
-// badValue is a value that no csid-etcd writes, and the error of reading it.
+// badValue is a value that csid-etcd never writes, and the error of reading this value.
 type badValue struct {
 	value string
 	want  error

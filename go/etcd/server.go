@@ -13,13 +13,14 @@ import (
 	"fomaheti/frames"
 )
 
-// How long csid may take to read a reply: replyTime, or replacedTime if a newer connection waits.
+// The time that csid may take to read a reply: replyTime, or replacedTime if a newer connection
+// waits.
 const (
 	replyTime    = 10 * time.Second
 	replacedTime = time.Second
 )
 
-// server answers the calls of csid in order. It serves only the newest connection.
+// server answers the calls of csid, one at a time. It serves only the newest connection.
 type server struct {
 	state   *leadership
 	members *members
@@ -30,10 +31,11 @@ type server struct {
 	newest      *connection
 }
 
-// connection is a connection from csid.
+// connection is a connection from csid, with the walk that reads the rows for it.
 type connection struct {
 	net.Conn
-	// replaced is closed when a newer connection arrives, done after the last call has ended.
+	// replaced is closed when a newer connection arrives or the program ends. done is closed when
+	// no call of this connection runs any more.
 	replaced chan struct{}
 	done     chan struct{}
 	once     sync.Once
@@ -56,7 +58,8 @@ func (s *server) take(conn net.Conn) {
 	}()
 }
 
-// replace ends a connection after its running call.
+// replace makes a connection end after its running call, and does not wait for this. It does
+// nothing for nil, or if it was called before.
 func (c *connection) replace() {
 	if c == nil {
 		return
@@ -77,7 +80,7 @@ func (c *connection) isReplaced() bool {
 	}
 }
 
-// wait returns after the last call of the connection.
+// wait waits until no call of the connection runs any more. It returns at once for nil.
 func (c *connection) wait() {
 	if c != nil {
 		<-c.done
@@ -153,7 +156,8 @@ func isPath(path string) bool {
 	return path == readPath || path == makePath || path == commitPath || path == leadPath
 }
 
-// dispatch runs a call in a term and returns the body of its reply.
+// dispatch carries out a call of one of the four paths in a term, and returns the body of its
+// reply.
 func (s *server) dispatch(c *connection, t *term, request frames.Request) ([]byte, error) {
 	switch request.Path {
 	case readPath:
@@ -222,7 +226,8 @@ func (s *server) end() {
 	last.wait()
 }
 
-// accept serves connections until the listener is closed, or returns its error.
+// accept serves connections until the listener is closed, and then returns nil. It returns any
+// other error of the listener that is not temporary.
 func (s *server) accept(listener net.Listener) error {
 	for {
 		conn, err := listener.Accept()

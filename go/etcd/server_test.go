@@ -44,7 +44,8 @@ func TestReplyNotTaken(t *testing.T) {
 	}
 }
 
-// If several connections wait for the end of a call, only the newest is answered.
+// If several connections wait for the end of a call of an earlier connection, only the newest one
+// is answered.
 func TestReplacedWhileItWaits(t *testing.T) {
 	state := &leadership{}
 	state.set(nil, refuse("waiting"))
@@ -76,7 +77,8 @@ func TestReplacedWhileItWaits(t *testing.T) {
 	}
 }
 
-// A reply that starts after a newer connection has arrived delays that one only for a moment.
+// A reply that starts after a newer connection has arrived delays the newer connection only for a
+// moment.
 func TestReplyAfterReplacement(t *testing.T) {
 	own, other := net.Pipe()
 	defer own.Close()
@@ -113,7 +115,7 @@ func TestTermOver(t *testing.T) {
 	}
 }
 
-// failingListener fails with each of its failures in turn.
+// failingListener is a listener whose Accept fails with the next one of its failures.
 type failingListener struct {
 	net.Listener
 	failures []error
@@ -190,7 +192,7 @@ func call(conn net.Conn, path string, message []byte) (frames.Reply, error) {
 }
 
 // A change waits for rows that are read ahead, even for another connection: the calls of a term are
-// served in order.
+// served one at a time.
 func TestReadAhead(t *testing.T) {
 	for _, c := range []struct {
 		name      string

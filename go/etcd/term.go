@@ -13,7 +13,7 @@ import (
 	"google.golang.org/grpc/codes"
 )
 
-// term is a period in which this program leads. Its calls are served in order.
+// term is a period in which this program leads. Its calls are served one at a time.
 type term struct {
 	client    *clientv3.Client
 	keys      keys
@@ -29,7 +29,7 @@ type term struct {
 	created int64
 	// The revision at which the key was last put. Each transaction compares it.
 	put int64
-	// Set after a transaction with an unknown outcome: etcd may still make it.
+	// Set after a transaction with an unknown outcome, which etcd may still make.
 	needsFence bool
 	// The greatest revision in an answer so far.
 	seen int64
@@ -37,7 +37,8 @@ type term struct {
 	gone chan struct{}
 }
 
-// isOver reports whether this program may have lost the lock, by its own clock.
+// isOver reports whether the term has ended, or its lease has ended by this program's own clock. In
+// both cases this program may have lost the lock.
 func (t *term) isOver() bool { return t.ctx.Err() != nil || !t.lease.isAlive() }
 
 // errOver is the error of a call during which the term ended.
@@ -55,8 +56,8 @@ const leadRetryPause = 50 * time.Millisecond
 // maxTries limits the attempts of a request that may be repeated.
 const maxTries = 3
 
-// retry makes a request that may be repeated, and repeats it if a member does not answer. The
-// attempts share the timeout, since calls go to the members in turn.
+// retry makes a request that may be repeated. If etcd has several members, retry repeats a request
+// after a deadline, up to maxTries attempts: they share the timeout and go to the members in turn.
 func (t *term) retry(ctx context.Context, request func(context.Context) error) error {
 	return retry(ctx, t.client, t.timeout, request)
 }
@@ -106,8 +107,8 @@ func readError(err error) error {
 	return unknownOutcome{err}
 }
 
-// observe notes the revision of an answer. It ends the term if etcd is at a lower revision than
-// least, the lowest possible one when the request was sent: then it was restored from an older
+// observe notes the revision of an answer in seen. It ends the term if etcd is at a lower revision
+// than least, the lowest possible one when the request was sent: then it was restored from an older
 // snapshot.
 func (t *term) observe(least, revision int64) error {
 	if err := t.revisions.check(least, revision); err != nil {
@@ -172,7 +173,8 @@ func (t *term) endTerm() error {
 	return refuse("this program does not lead any more: its key of the lock is gone")
 }
 
-// endReason returns the reason for which the term ended.
+// endReason returns errKeyGone if endTerm ended the term, and otherwise the error of the context,
+// which is nil before the end.
 func (t *term) endReason() error {
 	select {
 	case <-t.gone:
@@ -182,11 +184,11 @@ func (t *term) endReason() error {
 	}
 }
 
-// confirmLead asks etcd whether this program leads. It returns an error if the program does not
-// lead, or if etcd does not answer within the timeout of a request. If it returns nil, the program
-// led at some moment after confirmLead was called. Neither the program's own clock nor a watch can
-// confirm this: if somebody deletes the key or revokes the lease by hand, another program may lead
-// before a watch reports it.
+// confirmLead asks etcd if this program leads. It returns an error if the program does not lead, or
+// if etcd does not answer within the timeout of a request. If it returns nil, the program led at
+// some moment after confirmLead was called. Neither the program's own clock nor a watch can confirm
+// this: if the key is deleted or the lease is revoked by hand, another program may lead before a
+// watch reports it.
 func (t *term) confirmLead(ctx context.Context) error {
 	ctx, cancel := context.WithTimeout(ctx, t.timeout)
 	defer cancel()
@@ -202,7 +204,7 @@ func (t *term) confirmLead(ctx context.Context) error {
 		if unknown, ok := err.(unknownOutcome); ok {
 			err = unknown.err
 		}
-		// An error before the deadline tells more than the deadline itself.
+		// An error from before the deadline says more than the deadline itself.
 		if reason == nil || ctx.Err() == nil {
 			reason = err
 		}
@@ -259,13 +261,14 @@ func (t *term) watchStream(seen int64) int64 {
 	}
 }
 
-// lockHeld returns the comparison that the key of the lock is as last put. If it holds, this
-// program leads, and etcd has made no later fence.
+// lockHeld returns the comparison that the key of the lock was not put or deleted since this term
+// put it last. If it holds, this program leads, and etcd has made no later fence.
 func (t *term) lockHeld() clientv3.Cmp {
 	return clientv3.Compare(clientv3.ModRevision(t.key), "=", t.put)
 }
 
-// transact makes a transaction while this program holds the lock. It returns etcd's responses.
+// transact makes a transaction if this program holds the lock, and returns etcd's responses. An
+// error is a refusal or an unknownOutcome.
 func (t *term) transact(ctx context.Context, planned plan) (*clientv3.TxnResponse, error) {
 	least := t.revisions.least()
 	done, err := t.send(ctx, planned)
@@ -289,8 +292,8 @@ func (t *term) transact(ctx context.Context, planned plan) (*clientv3.TxnRespons
 	return done, nil
 }
 
-// send sends a transaction once. A member without a leader has not made it, so the next member is
-// asked.
+// send sends a transaction to one member. If this member has no leader, it has not made the
+// transaction, and send asks the next member.
 func (t *term) send(ctx context.Context, planned plan) (done *clientv3.TxnResponse, err error) {
 	ctx, cancel := t.request(ctx)
 	defer cancel()
@@ -305,7 +308,8 @@ func (t *term) send(ctx context.Context, planned plan) (done *clientv3.TxnRespon
 	return done, err
 }
 
-// lockedRead makes several reads at one revision, the newest, while this program holds the lock.
+// lockedRead makes several reads at the newest revision, in one transaction, if this program holds
+// the lock.
 func (t *term) lockedRead(ctx context.Context, reads ...clientv3.Op) (done *clientv3.TxnResponse, err error) {
 	least := t.revisions.least()
 	err = t.retry(ctx, func(ctx context.Context) error {
@@ -324,7 +328,8 @@ func (t *term) lockedRead(ctx context.Context, reads ...clientv3.Op) (done *clie
 	return done, nil
 }
 
-// compareFailure returns the refusal that names the failed comparison of a transaction.
+// compareFailure returns the refusal that names the failed comparison of a transaction. If the key
+// of the lock is gone, it ends the term.
 func (t *term) compareFailure(done *clientv3.TxnResponse, planned plan) error {
 	read := make([]*pb.RangeResponse, len(done.Responses))
 	for i, part := range done.Responses {
@@ -345,9 +350,10 @@ func (t *term) compareFailure(done *clientv3.TxnResponse, planned plan) error {
 	return refuse("a comparison failed")
 }
 
-// noSpaceOutcome finds out whether etcd made a transaction although it answered that it has no
-// space. The outcome was decided before that answer. So a key that the transaction puts shows it:
-// if its revision is not newer than all revisions seen before, the transaction was not made.
+// noSpaceOutcome finds out if etcd made a transaction although it answered that it has no space.
+// The outcome was decided before that answer. So a key that the transaction puts shows it: if its
+// revision is not newer than all revisions seen before, the transaction was not made. Otherwise, or
+// if the transaction also deletes keys, the outcome counts as unknown.
 func (t *term) noSpaceOutcome(ctx context.Context, planned plan) error {
 	before := t.seen
 	for _, op := range planned.success {

@@ -19,8 +19,8 @@ import (
 	"google.golang.org/grpc/status"
 )
 
-// scriptedServer is an etcd that answers transactions in turn from a script, and each read with one
-// key.
+// scriptedServer is an etcd that answers each transaction with the next one of answers, and each
+// read with one key.
 type scriptedServer struct {
 	pb.KVServer
 	mutex    sync.Mutex
@@ -33,8 +33,8 @@ type scriptedServer struct {
 	compared []string
 }
 
-// answer is the answer to a transaction: an error, or whether it was made, its revision and its
-// reads.
+// answer is the answer to a transaction: an error, or succeeded, which is true if all comparisons
+// held, with the revision and the rows of the reads.
 type answer struct {
 	err       error
 	succeeded bool
@@ -92,8 +92,8 @@ func (s *scriptedServer) newTerm(t *testing.T) *term {
 		key: "k", created: 10, put: 10, seen: 100}
 }
 
-// The reply to a change for each answer of etcd, and whether a fence must come before the next
-// change.
+// For each answer of etcd, a change has the wanted outcome. The answer also decides if a fence must
+// come before the next change, and if the term ends.
 func TestOutcomes(t *testing.T) {
 	held := &mvccpb.KeyValue{Key: []byte("k"), CreateRevision: 10, ModRevision: 10}
 	madeAgain := &mvccpb.KeyValue{Key: []byte("k"), CreateRevision: 11, ModRevision: 11}
@@ -151,7 +151,7 @@ func TestOutcomes(t *testing.T) {
 	}
 }
 
-// errorAnswers returns the answers that are these errors.
+// errorAnswers returns one answer for each error.
 func errorAnswers(errs ...error) (answers []answer) {
 	for _, err := range errs {
 		answers = append(answers, answer{err: err})
@@ -172,9 +172,9 @@ func outcome(err error) (codes.Code, string) {
 	return codes.OK, ""
 }
 
-// If etcd answers that it has no space, a change is refused only if a read shows that its key is
-// not newer than revision 100. This is the greatest revision seen before. A deleted key leaves no
-// trace that would show whether the change was made.
+// If etcd answers that it has no space, a change is refused only if a read shows that the key of
+// the change is not newer than revision 100, the greatest revision seen before. A deleted key
+// leaves no trace that would show if the change was made.
 func TestNoSpaceOutcome(t *testing.T) {
 	puts, deletes := &attach{attachment{7, "n", nil, false}}, &detach{7, "n"}
 	cases := []struct {
@@ -288,8 +288,8 @@ func (s *racingServer) Txn(context.Context, *pb.TxnRequest) (*pb.TxnResponse, er
 	return &pb.TxnResponse{Header: &pb.ResponseHeader{Revision: 200}, Succeeded: true}, nil
 }
 
-// An answer may be older than another answer that arrived after the request was sent. Then it is no
-// older snapshot: the reads of the lock run next to the calls.
+// An answer may be older than another answer that arrived after the request was sent. Such an
+// answer does not mean an older snapshot: reads of the lock run at the same time as calls.
 func TestSentBefore(t *testing.T) {
 	ctx := context.Background()
 	cases := map[string]func(t *term) error{
@@ -356,7 +356,8 @@ func (s *leaderServer) LeaseKeepAlive(stream pb.Lease_LeaseKeepAliveServer) erro
 	return stream.Send(&pb.LeaseKeepAliveResponse{})
 }
 
-// A member without a leader refuses each request at once, so that another member can be asked.
+// Each request asks a member without a leader to refuse it at once, so that another member can be
+// asked.
 func TestRefusedWithoutLeader(t *testing.T) {
 	ctx := context.Background()
 	cases := map[string]func(t *term) error{
@@ -428,8 +429,8 @@ func TestRetry(t *testing.T) {
 	}
 }
 
-// lockServer is an etcd that answers reads of the key of the lock with looks in turn, and repeats
-// the last one. It sends the scripted responses to watches.
+// lockServer is an etcd that answers each read of the key of the lock with the next one of looks,
+// and repeats the last one. It sends the scripted responses to watches.
 type lockServer struct {
 	pb.KVServer
 	pb.WatchServer
@@ -480,8 +481,8 @@ func (s *lockServer) Watch(stream pb.Watch_WatchServer) error {
 	return nil
 }
 
-// etcd is asked each time whether a program leads. If it does not answer, it is asked again, for as
-// long as a request may take.
+// confirmLead asks etcd each time. If etcd does not answer, confirmLead asks again, for as long as
+// a request may take.
 func TestConfirmLead(t *testing.T) {
 	failed := status.Error(codes.Internal, "any")
 	const (
@@ -538,8 +539,8 @@ func TestConfirmLead(t *testing.T) {
 	}
 }
 
-// watchCase is what etcd reports to the watches of a term, the revisions from which the watches
-// must start, and whether the term must end.
+// watchCase has the reports of etcd to the watches of a term, the revisions from which the watches
+// must start, and isOver, which is true if the term must end.
 type watchCase struct {
 	name    string
 	watches [][]*pb.WatchResponse

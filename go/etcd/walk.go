@@ -12,15 +12,15 @@ import (
 	"fomaheti/frames"
 )
 
-// A page ends once it has targetPageBytes, and never has more than maxPageBytes.
+// A page ends once its rows have targetPageBytes, and its rows never have more than maxPageBytes.
 const (
 	targetPageBytes = 1 << 20
 	maxPageBytes    = 3 << 20
 )
 
 // The limits of a read in rows. The first read is small; later ones have about the rows of a page,
-// at most maxLimit. For each read etcd visits the keys of all remaining rows, whatever the limit
-// is.
+// at most maxLimit. For each read, even with a small limit, etcd visits the keys of all remaining
+// rows.
 const (
 	firstLimit = 64
 	maxLimit   = 10000
@@ -43,15 +43,16 @@ type walk struct {
 	ahead chan page
 }
 
-// page is the body of a page and the token of the next one (nil for the last page), or the error of
-// reading it.
+// page is the body of a page and the token of the next page (nil after the last page), or the error
+// of reading this page.
 type page struct {
 	body  []byte
 	token []byte
 	err   error
 }
 
-// newWalk starts a walk and returns the start of its first page: the row of meta, if it exists.
+// newWalk starts a walk and returns the start of its first page: the row of meta, or nil if there
+// is none. It refuses a walk if the plugin has unknown keys.
 func newWalk(ctx context.Context, t *term) (*walk, []byte, error) {
 	if err := t.fence(ctx); err != nil {
 		return nil, nil, err
@@ -77,8 +78,8 @@ func newWalk(ctx context.Context, t *term) (*walk, []byte, error) {
 	return w, nil, nil
 }
 
-// unknownKeys returns the reads of the gaps between the keys of rows and of the lock. A key in a
-// gap is unknown.
+// unknownKeys returns reads that find the keys of the plugin that belong neither to rows nor to the
+// lock: one read for each gap between the known ranges.
 func (k keys) unknownKeys() (reads []clientv3.Op) {
 	begin := k.all()
 	for _, known := range []struct{ begin, end string }{
@@ -99,7 +100,7 @@ func (w *walk) first(ctx context.Context, begin []byte) ([]byte, error) {
 	return w.deliver(ctx, w.read(ctx, begin))
 }
 
-// next returns the next page.
+// next returns the next page, which is being read ahead. It must not be called after the last page.
 func (w *walk) next(ctx context.Context) ([]byte, error) { return w.deliver(ctx, <-w.ahead) }
 
 // deliver returns a page and starts to read the next one while csid puts the rows of this page into
@@ -113,7 +114,7 @@ func (w *walk) deliver(ctx context.Context, p page) ([]byte, error) {
 	return p.body, p.err
 }
 
-// waitAhead returns when no page is being read.
+// waitAhead waits until the page that is being read ahead is read, if there is one.
 func (w *walk) waitAhead() {
 	if w != nil && w.ahead != nil {
 		w.ahead <- <-w.ahead
@@ -189,7 +190,7 @@ func nextLimit(rows, bytes int64) int64 {
 	return limit
 }
 
-// row encodes a row as a field of a page.
+// row checks a row of etcd, and encodes it as a field of a page.
 func (w *walk) row(found *mvccpb.KeyValue) ([]byte, error) {
 	key := string(found.Key)
 	_, field, err := w.term.keys.pageRow(key, found.Value)

@@ -20,7 +20,8 @@ import (
 // firstRevision is the revision in the first answer of rowServer.
 const firstRevision = 100
 
-// rowServer is an etcd that answers reads of its rows. Its revision rises with each answer.
+// rowServer is an etcd that answers reads of its rows. Its revision rises with each answer to a
+// Range.
 type rowServer struct {
 	pb.KVServer
 	rows map[string]string
@@ -42,7 +43,7 @@ func (s *rowServer) Range(_ context.Context, request *pb.RangeRequest) (*pb.Rang
 	return s.read(request, header), nil
 }
 
-// Txn makes the reads of a transaction, whatever its comparisons are.
+// Txn makes the reads of a transaction at firstRevision, and ignores its comparisons.
 func (s *rowServer) Txn(_ context.Context, request *pb.TxnRequest) (*pb.TxnResponse, error) {
 	done := &pb.TxnResponse{Header: &pb.ResponseHeader{Revision: firstRevision}, Succeeded: true}
 	for _, part := range request.Success {
@@ -75,8 +76,8 @@ func (s *rowServer) read(request *pb.RangeRequest, header *pb.ResponseHeader) *p
 	return read
 }
 
-// checkRevisions checks that the first read was at the newest revision, and each later one at the
-// revision of its answer.
+// checkRevisions checks that the first Range asked for the newest revision or for firstRevision,
+// and each later one for firstRevision.
 func (s *rowServer) checkRevisions(t *testing.T) {
 	t.Helper()
 	for i, revision := range s.revisions {
@@ -122,10 +123,10 @@ func adjacent() (rows []attachment) {
 	return rows
 }
 
-// The pages of a walk over long rows have all rows once, in order and at one revision. No page is
-// longer than the body of a frame may be, even if rows fill a page to the last byte. After each
-// page, the revision at which the rows were read is noted as a revision that csid got in an
-// answer.
+// The pages of a walk over long rows have all rows once, in ascending order of keys and at one
+// revision. No page is longer than the body of a frame may be, even if rows fill a page to the last
+// byte. After each page, the revision at which the rows were read is noted as a revision that csid
+// got in an answer.
 func TestPages(t *testing.T) {
 	for size, count := range map[int]uint64{1 << 19: 10, 1 << 20: 8} {
 		t.Run(fmt.Sprintf("%d rows of %d bytes", count, size), func(t *testing.T) {
@@ -180,8 +181,9 @@ func readPages(t *testing.T, leading *term) (rows []byte) {
 	return rows
 }
 
-// Only the token of the last page is accepted, over the same connection and in the same term. After
-// a page that could not be read, no token is accepted, and no read waits for a page.
+// Only the token of the page that was read last is accepted, over the same connection and in the
+// same term. After a page that could not be read, no token is accepted, and no read waits for a
+// page.
 func TestTokens(t *testing.T) {
 	server := &rowServer{rows: map[string]string{}}
 	for n := uint64(1); n <= 8; n++ {
@@ -212,7 +214,7 @@ func TestTokens(t *testing.T) {
 	if err := read(&later, first); err != errToken {
 		t.Errorf("in a later term: got error %v, want %v", err, errToken)
 	}
-	// The second page was read ahead. The third one is compacted.
+	// The second page was read ahead. The revision of the third page is compacted.
 	server.isCompacted = true
 	if err := read(leading, first); err != nil {
 		t.Errorf("the second page: got error %v", err)

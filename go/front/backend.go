@@ -17,14 +17,14 @@ import (
 // call that would wait longer is sent later, so that its caller can still give it up.
 const promptTime = 2 * time.Millisecond
 
-// enoughSent is the number of calls on their way from which on a new call waits for the next reply.
-// One write then sends all calls that came in the meantime, while csid works on another call.
+// While enoughSent calls or more are on their way, a new call waits for the next reply. Then one
+// write sends all calls that came in the meantime, while csid works on a call that was sent before.
 const enoughSent = 2
 
 // backend sends calls to csid over one connection, since csid serves one connection at a time.
 type backend struct {
 	path string
-	// How long csid may take for a reply after the caller has given the call up.
+	// The time that csid may take for the reply to a call after its caller has given the call up.
 	late time.Duration
 	// Guards the fields from here to usual.
 	mutex sync.Mutex
@@ -37,7 +37,7 @@ type backend struct {
 	promptTime   time.Duration
 	// The moving average of the time that csid takes for a call.
 	usual time.Duration
-	// When the last reply came.
+	// The time of the last reply.
 	life life
 	// Connections that were made, and attempts that failed.
 	connections prometheus.Counter
@@ -63,14 +63,15 @@ const (
 	isWaiting stage = iota
 	// The call is sent or being sent, and has no reply yet.
 	isSent
-	// csid refused the call since its store was down. The call will be sent again over the next
-	// connection.
+	// csid refused the call since the store of csid was down. The call will be sent again over the
+	// next connection.
 	isRefused
 	// The call has its outcome, or its caller has given it up.
 	isOver
 )
 
-// call is a call of a client, from its beginning until it has its outcome.
+// call is one call to csid, of a client or of the front itself, from its beginning until it has its
+// outcome.
 type call struct {
 	ctx     context.Context
 	path    string
@@ -78,10 +79,10 @@ type call struct {
 	// The length of its frame in bytes.
 	size  int
 	stage stage
-	// Its element in the list of waiting calls.
+	// Its element in the list of waiting calls, while it waits.
 	place *list.Element
-	// Whether the call has let other calls go first, and whether it has been sent again. Each
-	// happens at most once.
+	// hasYielded is true if the call lets no other call go first any more: it did so before, or it
+	// is sent again. isRepeated is true if it is sent again, which happens at most once.
 	hasYielded, isRepeated bool
 	// Receives the outcome. The channel has room for it, so sending never waits for the caller.
 	done chan outcome
@@ -102,7 +103,8 @@ func (c *call) finish(answer frames.Reply, err error) {
 }
 
 // isHasty reports whether the deadline of a call is likely to pass before its reply comes. The
-// estimate is that csid takes the usual time for this call and for each of the calls before it.
+// estimate is that csid takes the usual time for this call and for each of the calls before it. A
+// call without a deadline is not hasty.
 func (c *call) isHasty(before int, usual time.Duration) bool {
 	deadline, isLimited := c.ctx.Deadline()
 	return isLimited && time.Until(deadline) <= time.Duration(before+1)*usual
@@ -121,7 +123,8 @@ func ended(ctx context.Context) error {
 }
 
 // call sends a call to csid and returns its reply. It never sends a call again that csid may have
-// carried out. After an error, csid has carried out the call or not, and the caller must repeat it.
+// carried out. After an error, csid has carried out the call or not, so the caller should repeat
+// it.
 func (b *backend) call(ctx context.Context, path string, message []byte) (frames.Reply, error) {
 	if err := ended(ctx); err != nil {
 		return frames.Reply{}, err
@@ -142,8 +145,7 @@ func (b *backend) call(ctx context.Context, path string, message []byte) (frames
 }
 
 // begin sends a call at once, or adds it to the calls that wait. A call waits if other calls wait,
-// if enoughSent calls are on their way, if there is no connection, or if mayBeSent forbids to send
-// it.
+// if enoughSent calls are on their way, if there is no connection, or if mayBeSent returns false.
 func (b *backend) begin(c *call) {
 	b.mutex.Lock()
 	defer b.mutex.Unlock()
@@ -168,10 +170,11 @@ func (b *backend) mayBeSent(c *call) bool {
 	return conn.hasRoom(c) && time.Since(conn.begun)+time.Duration(len(conn.sent))*b.usual < b.promptTime
 }
 
-// giveUp forgets a call whose caller no longer waits, and reports whether the call had no outcome.
-// A call that waits is never sent. A call on its way is taken back if it is the last one and none
-// of its bytes are written. Otherwise all of it is sent and its reply is dropped, so that the
-// connection can be used for further calls.
+// giveUp forgets a call whose caller no longer waits. It returns false if the call already has its
+// outcome, and does nothing then. A call that waits is never sent. A call on its way is taken back
+// if it is the last one and none of its bytes are written. Otherwise all of it is sent and its
+// reply is dropped, so that the connection can be used for further calls. If it is the first call
+// on its way, limit bounds the wait for this reply.
 func (b *backend) giveUp(c *call) bool {
 	b.mutex.Lock()
 	defer b.mutex.Unlock()
@@ -191,8 +194,8 @@ func (b *backend) giveUp(c *call) bool {
 	return true
 }
 
-// limit ends a connection if no reply to its first call comes within b.late. The caller has given
-// this call up.
+// limit starts the timer that ends a connection if no reply to the first call on its way comes
+// within b.late. The caller has given this call up.
 func (b *backend) limit(conn *connection) {
 	first := conn.sent[0]
 	conn.late = time.AfterFunc(b.late, func() {
@@ -218,8 +221,9 @@ func (b *backend) send() {
 
 // load moves waiting calls to the calls on their way, and reports whether it moved any. It stops at
 // a call that may not be sent now, and after a call whose message is too long to be copied. A call
-// whose deadline is likely to pass before its reply lets the other calls go first, once. Otherwise,
-// with too many callers, most calls would be sent and then given up before their replies.
+// whose caller no longer waits is dropped. A call whose deadline is likely to pass before its reply
+// lets the other calls go first, once: without this, most calls of too many callers would be sent,
+// and then given up before their replies.
 func (b *backend) load(conn *connection) (any bool) {
 	for b.waiting.Len() > 0 && conn.message == nil {
 		c := b.waiting.Front().Value.(*call)
@@ -245,7 +249,8 @@ func (b *backend) load(conn *connection) (any bool) {
 
 // write writes the frames of the calls on their way. If the socket does not take all bytes, which
 // happens with long messages, a goroutine writes the rest of the frame that was interrupted. The
-// calls after this frame wait again.
+// calls after this frame wait again. If the write fails, each call without a written byte waits
+// again.
 func (b *backend) write(conn *connection) {
 	isDone := true
 	err := conn.raw.Write(func(file uintptr) bool {
@@ -325,7 +330,7 @@ func (b *backend) dropEnded() {
 }
 
 // fail ends all waiting calls with the reason why a connection could not be made, or why it ended
-// without any reply. Otherwise each of these calls would make its own attempt to connect.
+// without any reply. If these calls stayed, each of them would cause another attempt to connect.
 func (b *backend) fail(why error) {
 	b.pace.failed()
 	for b.waiting.Len() > 0 {
@@ -349,8 +354,10 @@ func (b *backend) read(conn *connection) {
 	}
 }
 
-// answered gives a reply to the first call on its way. If it returns an error, the connection must
-// be closed. Waiting calls are sent after the last of the replies that came together.
+// answered gives a reply to the first call on its way. It keeps a call whose reply is downReason
+// after an earlier status 13 of this connection: the call is sent again over the next connection,
+// once. If answered returns an error, the connection must be closed. Waiting calls are sent after
+// the last of the replies that came together.
 func (b *backend) answered(conn *connection, answer frames.Reply) error {
 	b.mutex.Lock()
 	defer b.mutex.Unlock()
@@ -393,8 +400,9 @@ func (b *backend) served(conn *connection) {
 }
 
 // lose forgets a closed connection, after reading a reply failed with err. Calls that csid cannot
-// have carried out are sent again, once, over the next connection, before the calls that wait. The
-// other calls of the connection end without a reply.
+// have carried out are sent again over the next connection, each once, before the calls that wait.
+// The other calls of the connection end with an error. If the connection gave no reply at all, all
+// of its calls and all waiting calls end with an error.
 func (b *backend) lose(conn *connection, err error) {
 	b.mutex.Lock()
 	defer b.mutex.Unlock()

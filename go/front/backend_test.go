@@ -22,8 +22,8 @@ const shortCall = 2 + 4 + 1 + 4
 
 var notFound = []byte{5, 0, 0, 0, 0, 0, 0, 0}
 
-// csid plays a csid. It serves connections one after the other with the function serve, and counts
-// them.
+// csid plays a csid. It serves connections one after the other with the function serve. It returns
+// the path of its socket and the number of its connections.
 func csid(t *testing.T, serve func(net.Conn)) (path string, connections *int32) {
 	t.Helper()
 	listener, path := listening(t)
@@ -114,8 +114,8 @@ func TestLateReply(t *testing.T) {
 	}
 }
 
-// If csid closes each connection, the front makes few connections, however many calls there are.
-// Each failed connection ends all waiting calls, so no call waits for others.
+// If csid closes each connection, the front makes few connections, also for many calls. Each failed
+// connection ends all waiting calls, so each call waits for one connection at most.
 func TestFewConnections(t *testing.T) {
 	path, connections := csid(t, func(net.Conn) {})
 	b := newBackend(path, time.Minute)
@@ -240,7 +240,7 @@ func hold(b *backend) (letGo func()) {
 	}
 }
 
-// If a call cannot be sent over an old connection, it is sent over a new one.
+// If a call cannot be written to an old connection, it is sent over a new one.
 func TestUnsentCallIsSentAnew(t *testing.T) {
 	path, _ := csid(t, func(conn net.Conn) {
 		if isCalled(conn) {
@@ -295,8 +295,8 @@ func TestEndedContextOverAConnection(t *testing.T) {
 	}
 }
 
-// A call that was given up delays the next calls for the time of --late at most. Then a new
-// connection is made.
+// If no reply to a call that was given up comes within the time of --late, the connection ends, and
+// a call that waits gets an error that says so. A later call gets a new connection.
 func TestLateReplyThatNeverComes(t *testing.T) {
 	isSilent := true
 	path, connections := csid(t, func(conn net.Conn) {
@@ -321,7 +321,7 @@ func TestLateReplyThatNeverComes(t *testing.T) {
 	}
 }
 
-// The same limit applies if csid read nothing of the call that was given up.
+// The time of --late also applies if csid reads nothing of the call that was given up.
 func TestCallThatIsNeverRead(t *testing.T) {
 	listener, path := listening(t)
 	unread := make(chan net.Conn, 1)
@@ -390,8 +390,8 @@ func TestCallThatIsNeverSent(t *testing.T) {
 	wants(t, b, codes.NotFound)
 }
 
-// The pause also grows with each connection that cannot be made. The waiting calls end with the
-// error of this connection.
+// The pause doubles after each connection that cannot be made. The waiting calls end with the error
+// of this connection.
 func TestConnectionsThatCannotBeMade(t *testing.T) {
 	_, path := listening(t)
 	b := newBackend(path+".absent", time.Minute)
@@ -426,7 +426,8 @@ func TestLateReplyIsASignOfLife(t *testing.T) {
 	}
 }
 
-// If no other call waits, a call is sent even if its deadline is near.
+// If no other call waits, a call is sent even if its reply is not likely to come before its
+// deadline.
 func TestLoneCallWithAShortDeadline(t *testing.T) {
 	path, _ := csid(t, answering(notFound))
 	b := newBackend(path, time.Minute)
@@ -434,7 +435,7 @@ func TestLoneCallWithAShortDeadline(t *testing.T) {
 	wants(t, b, codes.NotFound)
 }
 
-// After a reply the pause is the least one again.
+// After a failure and then a reply the pause is the least one again.
 func TestReplyAfterAFailure(t *testing.T) {
 	path, _ := csid(t, answering([]byte{13, 0, 0, 0, 0, 0, 0, 0}))
 	b := newBackend(path, time.Minute)

@@ -22,7 +22,8 @@ type change struct {
 	Name   string `json:"name,omitempty"`
 	Volume string `json:"volume,omitempty"`
 	Node   string `json:"node,omitempty"`
-	// Who called over the control socket; nil for gRPC.
+	// The process that called over the control socket; nil for gRPC, or if the system does not name
+	// it.
 	*sender
 }
 
@@ -44,7 +45,7 @@ var changes = map[string]struct{ name, volume, node protowire.Number }{
 }
 
 // changeOf returns the change that a call asks for, or nil if the method changes no volumes. The id
-// of a created volume comes from the body of the reply.
+// of a created volume comes from the body of the reply, so it is empty after a refusal.
 func changeOf(path string, message, body []byte) *change {
 	fields, is := changes[path]
 	if !is {
@@ -62,7 +63,8 @@ func changeOf(path string, message, body []byte) *change {
 	return asked
 }
 
-// fieldOf returns the bytes of a field; nil if the field is absent or the message is malformed.
+// fieldOf returns the bytes of a field. It returns nil if the number is 0, the field is absent or
+// the message is malformed.
 func fieldOf(message []byte, number protowire.Number) []byte {
 	if number == 0 {
 		return nil
@@ -75,7 +77,7 @@ func fieldOf(message []byte, number protowire.Number) []byte {
 	return bytes
 }
 
-// textOf returns the first most bytes of a field as text.
+// textOf returns a field as text, cut after `most` bytes. The text is empty if fieldOf returns nil.
 func textOf(message []byte, number protowire.Number, most int) string {
 	bytes := fieldOf(message, number)
 	if len(bytes) > most {

@@ -7,8 +7,8 @@ import (
 	"testing"
 )
 
-// The fields of each request, in messages worked out by hand from docs/PROTOCOL.md, "Messages".
-// Field 5 is secrets, which is never read.
+// changeOf reads the logged fields of each request. The messages are worked out by hand from
+// docs/PROTOCOL.md, "Messages". Field 5 is secrets, which is never read.
 func TestChangeOf(t *testing.T) {
 	const secrets = "2a07 0a0168 12027077"
 	rows := []struct {

@@ -18,17 +18,17 @@ const (
 	maxWatchers = 64
 )
 
-// quietTime is how long a connection without a call cannot be closed for another one: a new client
-// needs a moment to send its first call. roomPause is the pause between two attempts to make room
-// for a connection.
+// A connection must be without a call for quietTime before it can be closed for another one: a new
+// client needs a moment to send its first call. roomPause is the pause between two attempts to make
+// room for a connection.
 const (
 	quietTime = 100 * time.Millisecond
 	roomPause = 10 * time.Millisecond
 )
 
 // limitedListener accepts connections, and keeps at most limit of them open. To make room for a new
-// one, it closes the connection that has had no call for the longest time. If each connection has a
-// call, the new one waits.
+// one, it closes the connection that has had no call for the longest time. While each open
+// connection has a call, or has been without one for less than quietTime, the new connection waits.
 type limitedListener struct {
 	net.Listener
 	limit int
@@ -57,7 +57,8 @@ func (l *limitedListener) Accept() (net.Conn, error) {
 	return client, nil
 }
 
-// take waits for a connection, and for room for it.
+// take waits for a connection, and then for room for it. If the listener is closed in the meantime,
+// it closes the connection and returns net.ErrClosed.
 func (l *limitedListener) take() (*clientConn, error) {
 	conn, err := l.Listener.Accept()
 	if err != nil {
@@ -81,8 +82,8 @@ func (l *limitedListener) Close() error {
 	return l.Listener.Close()
 }
 
-// admit counts a connection as open, and reports whether there is room for it. To make room, it
-// closes a connection without a call.
+// admit counts a connection as open if there is room for it, and reports whether there was. To make
+// room, it closes a connection without a call.
 func (l *limitedListener) admit(client *clientConn) bool {
 	l.mutex.Lock()
 	defer l.mutex.Unlock()
@@ -111,7 +112,8 @@ func (l *limitedListener) closeQuiet() bool {
 	return true
 }
 
-// clientConn is the connection of a client. The methods begin and end do nothing if it is nil.
+// clientConn is the connection of a client. On a nil connection the methods begin and end do
+// nothing.
 type clientConn struct {
 	net.Conn
 	listener *limitedListener

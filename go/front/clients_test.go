@@ -17,8 +17,8 @@ func open(l *limitedListener) int {
 	return l.open
 }
 
-// limited returns a listener with a limit of open connections, its path, and the number of
-// connections that it has closed for others.
+// limited returns a listener with a limit of open connections, the path of its socket, and the
+// number of connections that it has closed for others.
 func limited(t *testing.T, limit int) (*limitedListener, string, *int32) {
 	t.Helper()
 	listener, path := listening(t)
@@ -52,7 +52,8 @@ func isClosed(t *testing.T, peer net.Conn, client *clientConn) bool {
 	return err != nil
 }
 
-// At the limit, a new connection closes the connection that has had no call for the longest time.
+// At the limit, a new connection closes the connection that has had no call for the longest time,
+// unless another connection has ended.
 func TestConnectionThatMakesRoom(t *testing.T) {
 	rows := map[string]struct {
 		act    func(clients []*clientConn)

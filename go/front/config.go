@@ -34,7 +34,8 @@ type node struct {
 	MaxVolumes int64  `toml:"max_volumes" json:"maxVolumes"`
 }
 
-// readConfiguration reads the configuration in a file. It fails if no metrics can be made from it.
+// readConfiguration reads the configuration in a file. It fails if the file cannot be read or is
+// not TOML, or if check refuses the configuration.
 func readConfiguration(path string) (*configuration, error) {
 	// In JSON a missing list must be [], and not null.
 	config := &configuration{Pools: []pool{}, Nodes: []node{}}

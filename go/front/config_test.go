@@ -10,7 +10,7 @@ import (
 	"google.golang.org/grpc/codes"
 )
 
-// fileOf makes a file with a text, and returns its path.
+// fileOf makes the file config.toml with this text in a new folder, and returns its path.
 func fileOf(t *testing.T, text string) string {
 	t.Helper()
 	path := filepath.Join(t.TempDir(), "config.toml")
@@ -41,7 +41,8 @@ func TestConfiguration(t *testing.T) {
 	}
 }
 
-// The JSON of a configuration, which csictl reads.
+// A configuration is answered as the JSON that csictl reads. Without a configuration the call is
+// refused.
 func TestConfigurationInJSON(t *testing.T) {
 	const pool, node = "[[pool]]\nname = \"p\"\nbytes = 1048576\n", "[[node]]\nid = \"n 1\"\nmax_volumes = 2\n"
 	rows := []struct{ text, want string }{

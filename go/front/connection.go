@@ -19,34 +19,37 @@ const (
 	maxSentBytes = 64 << 10
 )
 
-// A message of at most this many bytes is copied, so that one write sends the frames of several
-// calls.
+// A message of at most this many bytes is copied into the buffer, so that one write sends the
+// frames of several calls. A longer message is written without a copy.
 const maxCopiedBytes = 4 << 10
 
 // errUnanswered is the error if csid closes the connection before a reply begins. csid logs the
 // reason on its own standard error.
 var errUnanswered = errors.New("the connection was closed unanswered: see the log of csid")
 
-// The reasons why the front closes a connection itself. errUnasked: csid sent a reply without a
-// call. errSpoiled: csid refused a change, and makes no more changes over the connection.
+// Two of the reasons why the front itself closes a connection. errUnasked: csid sent a byte while
+// no call was on its way. errSpoiled: csid refused a change with status 13, and makes no more
+// changes over the connection.
 var (
 	errUnasked = errors.New("a reply came to no call")
 	errSpoiled = errors.New("a change was refused")
 )
 
-// connection is a connection to csid, which answers its calls in order. One goroutine reads the
-// replies and closes the connection. The mutex of the backend guards all fields except replies and
-// sentCount.
+// connection is a connection to csid, which answers calls in the order in which they were sent. One
+// goroutine reads the replies and closes the connection. The mutex of the backend guards all fields
+// except replies and sentCount.
 type connection struct {
 	socket  *net.UnixConn
 	raw     syscall.RawConn
 	replies *frames.Replies
-	// The calls on their way, in order, and the total length of their frames in bytes. sentCount is
-	// the number of these calls. The goroutine that reads uses it without the mutex.
+	// The calls on their way, in the order in which they were sent, and the total length of their
+	// frames in bytes. sentCount is the number of these calls; the goroutine that reads uses it
+	// without the mutex.
 	sent      []*call
 	sentBytes int
 	sentCount atomic.Int32
-	// Calls that are sent again over the next connection, in order.
+	// Calls that are sent again over the next connection, in the order in which they were sent
+	// first.
 	again []*call
 	// The unwritten bytes of the calls on their way: buffer from the index written on, and then
 	// message, which is a message that is too long to be copied. While isWriting is true, a
@@ -55,21 +58,22 @@ type connection struct {
 	written   int
 	message   []byte
 	isWriting bool
-	// When csid could begin with the first call on its way: when this call was sent, or when the
-	// reply to the call before it came.
+	// The time from which csid could work on the first call on its way: the time at which this call
+	// was sent, or at which the reply to the call before it came.
 	begun time.Time
 	// The timer that ends the connection. It runs if the caller of the first call on its way has
 	// given the call up.
 	late *time.Timer
-	// Whether a call was sent, whether a reply came, whether csid makes no more changes (after a
-	// status 13), and whether nothing more can be written.
+	// hasSent is true if a call was sent, and hasServed if a reply came. isSpoiled is true if csid
+	// makes no more changes, after a status 13. isBroken is true if nothing more can be written.
 	hasSent, hasServed, isSpoiled, isBroken bool
-	// Why the front ended the connection, if it did.
+	// The reason why the front ended the connection. It is nil if the front did not, or if the
+	// error of reading shows the reason.
 	why error
 }
 
-// connect connects to the socket of csid. It does not wait. If csid has no room for a connection,
-// it fails.
+// connect connects to the socket of csid. It never waits: if the queue of csid's socket is full, it
+// fails.
 func connect(path string) (*connection, error) {
 	socket, err := net.DialUnix("unix", nil, &net.UnixAddr{Name: path, Net: "unix"})
 	if err != nil {
@@ -83,7 +87,7 @@ func connect(path string) (*connection, error) {
 	return &connection{socket: socket, raw: raw, replies: frames.NewReplies(socket)}, nil
 }
 
-// next reads the next reply. A byte that comes while no call is on its way is an error.
+// next reads the next reply. If a byte comes while no call is on its way, it returns errUnasked.
 func (c *connection) next() (frames.Reply, error) {
 	if err := c.replies.Await(); err != nil {
 		return frames.Reply{}, err
@@ -94,8 +98,9 @@ func (c *connection) next() (frames.Reply, error) {
 	return c.replies.Next()
 }
 
-// end shuts the connection down, after which the goroutine that reads closes it. Bytes that csid
-// wrote before can still be read. The next write of csid fails, so csid looks at no further call.
+// end shuts the connection down, after which the goroutine that reads closes it. The first reason
+// that is not nil is kept. Bytes that csid wrote before can still be read. The next write of csid
+// fails, so csid looks at no further call.
 func (c *connection) end(why error) {
 	c.isBroken = true
 	if c.why == nil {
@@ -132,7 +137,7 @@ func (c *connection) add(one *call) {
 	}
 }
 
-// takeFirst removes the first call on its way, which has its reply.
+// takeFirst removes the first call on its way, whose reply has come, and returns it.
 func (c *connection) takeFirst() *call {
 	one := c.sent[0]
 	copy(c.sent, c.sent[1:])
@@ -169,12 +174,13 @@ func (c *connection) last() *call {
 	return c.sent[len(c.sent)-1]
 }
 
-// isUnwritten reports whether a call is the last one on its way and nothing of it was written.
+// isUnwritten reports whether a call is the last one on its way and no byte of its frame was
+// written. It returns false for nil.
 func (c *connection) isUnwritten(one *call) bool {
 	return one != nil && one == c.last() && c.unwritten() >= one.size
 }
 
-// unwritten returns the number of bytes that are not written yet.
+// unwritten returns the number of bytes of the calls on their way that are not written yet.
 func (c *connection) unwritten() int { return len(c.buffer) - c.written + len(c.message) }
 
 func (c *connection) stopLate() {
@@ -185,7 +191,8 @@ func (c *connection) stopLate() {
 }
 
 // write writes as many bytes as the socket takes without waiting. It returns true if everything is
-// written, or if nothing more can be written. Otherwise it must be called again.
+// written, or if writing failed and the connection was ended. Otherwise it must be called again
+// when the socket takes more.
 func (c *connection) write(file uintptr) bool {
 	for c.unwritten() > 0 {
 		isBuffer, part := true, c.buffer[c.written:]
@@ -198,7 +205,7 @@ func (c *connection) write(file uintptr) bool {
 		case err == syscall.EAGAIN:
 			return false
 		case frames.IsClosing(err):
-			// The goroutine that reads fails too, and has the reason.
+			// The goroutine that reads gets an error too, which shows the reason.
 			c.end(nil)
 			return true
 		case err != nil:
@@ -215,11 +222,11 @@ func (c *connection) write(file uintptr) bool {
 }
 
 // isUndone reports whether csid cannot have carried out the call at this place among the calls on
-// their way, after reading a reply failed with err. csid writes each reply before it looks at the
-// next call, so it can have carried out only the first call. It has not carried out the first call
-// either if that is the only one and csid did not read all of it. This is so if a part was not
-// written, or if the socket was reset: a socket is reset if its peer closes it before reading all
-// bytes.
+// their way, after reading a reply failed with err. It returns false if err does not mean that csid
+// closed the connection. csid writes each reply before it looks at the next call, so it can have
+// carried out only the first call. If the first call is the only one, csid has not carried it out
+// either if a part of it was not written, or if the socket was reset: a socket is reset if its peer
+// closes it before reading all bytes.
 func (c *connection) isUndone(place int, err error) bool {
 	if !frames.IsClosing(err) && err != io.ErrUnexpectedEOF {
 		return false

@@ -23,7 +23,8 @@ func listening(t *testing.T) (net.Listener, string) {
 	return listener, path
 }
 
-// awaitBytes waits until count bytes of a call have come, and reads none of them.
+// awaitBytes waits until at least count bytes have come that are not read yet, and leaves them
+// unread.
 func awaitBytes(conn net.Conn, count int) {
 	raw, err := conn.(*net.UnixConn).SyscallConn()
 	if err != nil {

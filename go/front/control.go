@@ -23,7 +23,7 @@ const (
 	takeTime     = 10 * time.Second
 )
 
-// The pause after a connection that could not be accepted.
+// The pause after a failure to accept a connection.
 const acceptPause = time.Second
 
 // The time between two checks that a peer still waits for its reply.
@@ -33,7 +33,7 @@ const peerLookTime = 100 * time.Millisecond
 const viaControl = "control"
 
 // control answers calls in the envelope of docs/PROTOCOL.md over a Unix socket, as csid does. With
-// it, users of csictl need not wait until the front leaves its connection to csid. Each connection
+// it, users of csictl need not wait until the front closes its connection to csid. Each connection
 // has one call at a time, which waits like a gRPC call.
 type control struct {
 	handler *handler
@@ -124,16 +124,17 @@ func (c *control) stop() {
 	}
 }
 
-// wait waits until no call runs.
+// wait waits until all connections of the control socket have ended. After stop each of them ends
+// when its call has ended.
 func (c *control) wait() {
 	if c != nil {
 		c.served.Wait()
 	}
 }
 
-// answerAll answers the calls of a connection, in order, until the connection ends or a call gets
-// no reply. A malformed frame is answered as csid answers it, without csid, and ends the
-// connection.
+// answerAll answers the calls of a connection, one after the other, until the connection ends or a
+// call gets no reply. The front itself answers a malformed frame, with the reply that csid would
+// give, and ends the connection.
 func (c *control) answerAll(conn *clientConn) {
 	requests := frames.NewRequests(conn)
 	for c.awaits(conn) {
@@ -164,7 +165,7 @@ func (c *control) carriesOut(conn *clientConn, request frames.Request) bool {
 }
 
 // awaits sets the time limit for the next call. It returns false if the front takes no further
-// calls.
+// calls, or if the connection is closed.
 func (c *control) awaits(conn *clientConn) bool {
 	c.mutex.Lock()
 	defer c.mutex.Unlock()
@@ -177,8 +178,8 @@ func (c *control) reply(conn *clientConn, answer frames.Reply) error {
 	return err
 }
 
-// answer sends a call to csid, and logs and counts it. If csid gives no reply, the caller gets no
-// reply either.
+// answer sends a call to csid and counts it. It logs the call if it was refused or is a change to
+// be logged. If csid gives no reply, answer returns an error, and the caller gets no reply either.
 func (c *control) answer(conn *clientConn, request frames.Request) (frames.Reply, error) {
 	begin := time.Now()
 	ctx, cancel := context.WithCancel(context.Background())
@@ -200,8 +201,8 @@ func (c *control) answer(conn *clientConn, request frames.Request) (frames.Reply
 	return answer, err
 }
 
-// senderOf returns who is at the other end of a connection, by SO_PEERCRED (unix(7)); nil if the
-// system does not say.
+// senderOf returns the ids of the process at the other end of a connection, by SO_PEERCRED
+// (unix(7)); nil if the system does not name them.
 func senderOf(conn *net.UnixConn) *sender {
 	raw, err := conn.SyscallConn()
 	if err != nil {
@@ -216,8 +217,8 @@ func senderOf(conn *net.UnixConn) *sender {
 	return &sender{credentials.Uid, credentials.Pid}
 }
 
-// cancelGone cancels a context as soon as the peer has closed its connection. A peer that has
-// closed only its sending half still waits for the reply.
+// cancelGone checks every peerLookTime if the peer has closed its connection. If so, it cancels the
+// context and returns. A peer that has closed only its sending half still waits for the reply.
 func cancelGone(ctx context.Context, cancel func(), conn *net.UnixConn) {
 	looks := time.NewTicker(peerLookTime)
 	defer looks.Stop()
@@ -234,7 +235,8 @@ func cancelGone(ctx context.Context, cancel func(), conn *net.UnixConn) {
 	}
 }
 
-// isGone reports whether a peer has closed its end of a connection. Sending zero bytes then fails.
+// isGone reports whether a peer has closed its end of a connection: then sending zero bytes fails.
+// It also returns true if the front has closed the connection.
 func isGone(conn *net.UnixConn) bool {
 	raw, err := conn.SyscallConn()
 	if err != nil {

@@ -38,7 +38,8 @@ func (w *written) String() string {
 	return w.text.String()
 }
 
-// controlled starts a control socket for a csid. It returns the path of the socket, and the log.
+// controlled starts a control socket for the csid at this path. It also returns the path of the
+// control socket, and the log.
 func controlled(t *testing.T, csid string) (*control, string, *written) {
 	t.Helper()
 	asked := options{csid: csid, late: time.Minute, waiting: 1, control: filepath.Join(t.TempDir(), "control.sock")}
@@ -64,8 +65,8 @@ func dial(t *testing.T, path string) *net.UnixConn {
 
 const shortFrame = "0004 2f612f62 00 00000000"
 
-// Calls over one connection are answered in order with the bytes of csid, even if the peer ends its
-// writing at once.
+// Calls over one connection are answered with the bytes of csid, also if the peer sends both at
+// once and then closes its sending half. Each refused call is logged.
 func TestControlCalls(t *testing.T) {
 	path, _ := csid(t, answering(fromHex(t, "09 0002 4142 00 00000000")))
 	c, socket, log := controlled(t, path)
@@ -129,8 +130,8 @@ func TestManyControlConnections(t *testing.T) {
 	}
 }
 
-// A peer without a complete call is closed to make room for another peer. A peer whose call runs is
-// not.
+// A peer without a complete call is closed to make room for another peer. A peer whose call runs
+// stays.
 func TestSilentControlPeers(t *testing.T) {
 	path, let := holding(t)
 	c, socket, _ := controlled(t, path)
@@ -294,7 +295,7 @@ func holding(t *testing.T) (string, chan struct{}) {
 	return path, let
 }
 
-// At the end a running call is answered, and an incomplete call is not.
+// After stop a running call is answered, and an incomplete call is not.
 func TestEndOfControl(t *testing.T) {
 	path, let := holding(t)
 	c, socket, _ := controlled(t, path)
@@ -318,8 +319,8 @@ func TestEndOfControl(t *testing.T) {
 	}
 }
 
-// At the end the front does not wait for a peer that keeps its connection after its reply. It
-// closes a connection that it accepts then.
+// At its end the front does not wait for a peer that keeps its connection after its reply. A
+// connection that is accepted after stop is closed without a reply.
 func TestControlConnectionsAtTheEnd(t *testing.T) {
 	path, let := holding(t)
 	c, socket, _ := controlled(t, path)

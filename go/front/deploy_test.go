@@ -56,8 +56,8 @@ var (
 	matchers = regexp.MustCompile(`(\w+)(=|!=|=~|!~)\\?"([^"\\]*)\\?"`)
 )
 
-// The dashboard, the alerts and the page name only metrics that exist, and only labels that these
-// metrics have.
+// The dashboard, the alerts and docs/DEPLOY.md name only metrics of the front that exist, and only
+// labels that these metrics have.
 func TestMetricsThatAreNamed(t *testing.T) {
 	names := reportedSeries(t)
 	codeNames := map[string]bool{}

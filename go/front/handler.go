@@ -15,22 +15,23 @@ import (
 	"fomaheti/frames"
 )
 
-// greetingTime is how long a client may take to begin HTTP/2 on a new connection. Such a client
-// delays a graceful end for at most this time.
+// greetingTime is the time that a client may take to begin HTTP/2 on a new connection. A client
+// that has not begun delays a graceful end for at most this time.
 const greetingTime = 5 * time.Second
 
 // maxWaitingCalls is the greatest number of calls that run at once over one connection of a client.
 const maxWaitingCalls = 256
 
-// The flow-control windows of gRPC in bytes, for one call and for all calls of a client: the client
-// may send this much before the front reads it. Since both are set, gRPC does not enlarge them.
+// The flow-control windows of gRPC in bytes, for one call and for all calls of one connection: the
+// client may send this many bytes before the front reads them. Since both are set, gRPC does not
+// enlarge them.
 const (
 	callWindow   = 64 << 10
 	clientWindow = 1 << 20
 )
 
 // callWorkers is the number of goroutines that are kept for calls. They save the time in which a
-// new goroutine grows its stack. Further calls get new goroutines.
+// new goroutine grows its stack. While all of them have calls, a further call gets a new goroutine.
 const callWorkers = 32
 
 // maxHeaderBytes is the greatest size of the headers of one call: their names, their values, and 32
@@ -57,9 +58,9 @@ const (
 	nodePluginName = "node plugin"
 )
 
-// handler answers calls of every unary method with the replies of csid, with two exceptions. The
-// Node service is answered by the node plugin, if there is one. Check of the health service is
-// answered by the front, with --health.
+// handler answers calls of every unary method with the replies of csid, with three exceptions. If
+// there is a node plugin, it answers the Node service, and Probe asks csid and the plugin. With
+// --health, the front answers Check of the health service.
 type handler struct {
 	backend *backend
 	// The client of the node plugin, which answers the Node service; nil without --node.
@@ -69,11 +70,13 @@ type handler struct {
 	log      *logger
 	// Holds a value for each health check over HTTP that runs.
 	checks chan struct{}
-	// Whether the health service of gRPC is answered, and whether each change is logged.
+	// hasHealth is true if the health service of gRPC is answered, and logChanges if each change is
+	// logged.
 	hasHealth  bool
 	logChanges bool
-	// Whether the front has --standby, and whether it waits for csid. While it waits, it does not
-	// log refusals of its own calls, since it has logged why it waits.
+	// standsBy is true if the front has --standby, and isWaiting while the front waits for csid.
+	// While it waits, it does not log refusals of the calls that it makes itself, since it has
+	// logged why it waits.
 	standsBy  bool
 	isWaiting atomic.Bool
 }
@@ -157,9 +160,9 @@ func (h *handler) answer(path string, stream grpc.ServerStream) (*change, error)
 	return asked, stream.SendMsg(&body)
 }
 
-// answerByNode answers a call of the Node service. Its message does not count as one of those that
-// wait for csid. maxNodeCalls bounds such messages, so a plugin that hangs takes no room from the
-// calls of csid.
+// answerByNode answers a call of the Node service. Its message does not count in the limit of
+// --waiting. maxNodeCalls bounds such messages instead, so a plugin that hangs takes no room from
+// the calls of csid.
 func (h *handler) answerByNode(path string, stream grpc.ServerStream) error {
 	message, err := h.messages.read(stream)
 	if err != nil {
@@ -194,8 +197,9 @@ func (h *handler) respond(ctx context.Context, path string, message []byte) ([]b
 	return h.ask(ctx, path, message)
 }
 
-// ask sends a call to csid and returns the body of the reply. If csid refuses the call, it returns
-// the gRPC error for the orchestrator.
+// ask sends a call to csid and returns the body of the reply. If csid refuses the call or gives no
+// reply, ask returns the gRPC error for the orchestrator, which is UNAVAILABLE if isOpen is true of
+// the reply.
 func (h *handler) ask(ctx context.Context, path string, message []byte) ([]byte, error) {
 	answer, err := h.reply(ctx, path, message)
 	if err != nil {
@@ -210,7 +214,8 @@ func (h *handler) ask(ctx context.Context, path string, message []byte) ([]byte,
 	return answer.Body, nil
 }
 
-// reply sends a call to csid and returns its reply unchanged.
+// reply sends a call to csid and returns its reply unchanged. It counts a reply with one of the
+// openReasons.
 func (h *handler) reply(ctx context.Context, path string, message []byte) (frames.Reply, error) {
 	answer, err := h.backend.call(ctx, path, message)
 	if err == nil && isOpen(answer) {
@@ -219,13 +224,13 @@ func (h *handler) reply(ctx context.Context, path string, message []byte) (frame
 	return answer, err
 }
 
-// isOpen reports whether csid may have made the change, or not, after this reply.
+// isOpen reports whether a reply has one of the openReasons.
 func isOpen(answer frames.Reply) bool {
 	return answer.Code == codes.Internal && openReasons[answer.Text]
 }
 
-// downReason is the text of status 13 for each change on a connection after the store refused an
-// earlier change. A call with this reply changed nothing.
+// downReason is the text of status 13 for each change after csid refused an earlier change of the
+// same connection with status 13. A call with this reply changed nothing.
 const downReason = "store is down"
 
 // isDown reports whether csid did not make a call because its store was down.
@@ -233,13 +238,14 @@ func isDown(answer frames.Reply) bool {
 	return answer.Code == codes.Internal && answer.Text == downReason
 }
 
-// openReasons are the texts of status 13 after which the change may have been made or not. An
-// orchestrator then gets UNAVAILABLE. Sidecars take INTERNAL as final, and would believe that no
-// change was made.
+// openReasons are the texts of status 13 for which an orchestrator gets UNAVAILABLE, and so repeats
+// the call. Except after downReason, the change may have been made or not. Sidecars take INTERNAL
+// as final, and would believe that no change was made.
 var openReasons = map[string]bool{"out of memory": true, "store refused": true, downReason: true}
 
-// refusal returns the gRPC error for a call without a reply. Its code tells an orchestrator that
-// the call may have been carried out or not, so the orchestrator repeats it.
+// refusal returns the gRPC error for a call without a reply: the error of the context if it has
+// ended, and otherwise UNAVAILABLE with the name who and err. From these codes an orchestrator
+// knows that the call may have been carried out or not, so it repeats the call.
 func refusal(ctx context.Context, who string, err error) error {
 	if ended := ended(ctx); ended != nil {
 		return status.FromContextError(ended).Err()
@@ -247,8 +253,8 @@ func refusal(ctx context.Context, who string, err error) error {
 	return status.Errorf(codes.Unavailable, "%s: %v", who, err)
 }
 
-// shownPath returns a path as one word of a log line. A path that no frame can have is cut after
-// frames.MaxPathBytes bytes and quoted.
+// shownPath returns a path as one word of a log line. A path that no frame can have is quoted,
+// after it was cut to frames.MaxPathBytes bytes.
 func shownPath(path string) string {
 	if frames.IsPath(path) {
 		return path

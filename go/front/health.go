@@ -10,7 +10,8 @@ import (
 )
 
 // checkHealth answers Check of gRPC's health service, for the plugin as a whole or for one of its
-// services.
+// services. The answer is NOT_SERVING if the check fails or takes longer than questionTime. An
+// unknown service is refused with NOT_FOUND.
 func (h *handler) checkHealth(ctx context.Context, message []byte) ([]byte, error) {
 	var asked grpc_health_v1.HealthCheckRequest
 	if err := proto.Unmarshal(message, &asked); err != nil {

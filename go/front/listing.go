@@ -43,16 +43,16 @@ type poolUse struct {
 	bytes   int64
 }
 
-// listings lists all volumes again and again. As metrics it reports the sums of the last complete
-// listing, and the sizes and limits in the configuration.
+// listings lists all volumes again and again. It is a collector of metrics: the sums of the last
+// complete listing, and the sizes and limits in the configuration.
 type listings struct {
 	handler *handler
 	config  *configuration
-	// The constants above, except in tests.
+	// The constants with these names, except in tests.
 	pagePause, listingPause, failurePause time.Duration
 	mutex                                 sync.Mutex
 	last                                  *listing
-	// Whether a listing has ended, with success or with an error.
+	// True if a listing has ended, with success or with an error.
 	hasListed bool
 }
 
@@ -85,8 +85,9 @@ func pause(ctx context.Context, length time.Duration) {
 	}
 }
 
-// list walks over all pages and keeps the sums. If a page is refused, it logs the reason, except at
-// the start and while the front waits for csid.
+// list walks over all pages and keeps the sums. If a page is refused or malformed, it returns and
+// logs the reason. It does not log the reason if isAtStart is true, while the front waits for csid,
+// or after the end of the context. After maxPages pages it returns an error without a line.
 func (l *listings) list(ctx context.Context) error {
 	begin, listed := time.Now(), &listing{pools: map[string]poolUse{}, attachments: map[string]int{}}
 	token := ""
@@ -119,9 +120,9 @@ func (l *listings) list(ctx context.Context) error {
 	return errors.New("the pages of ListVolumes have no end")
 }
 
-// isAtStart reports whether the first listing failed because csid was not reachable. When a machine
-// boots, csid makes its socket a moment after the front starts. The listing is repeated soon, and
-// logs the reason if csid is still not reachable.
+// isAtStart reports whether err is UNAVAILABLE and no listing has ended yet. When a machine boots,
+// csid makes its socket a moment after the front starts. The listing is repeated soon, and logs the
+// reason if csid is still not reachable.
 func (l *listings) isAtStart(err error) bool {
 	return !l.hasListed && status.Code(err) == codes.Unavailable
 }
@@ -183,7 +184,7 @@ func (l *listing) addEntry(entry []byte) error {
 }
 
 // addVolume adds a volume to the use of its pool. Field 1 of the volume is its size in bytes. Field
-// 3 is its context, whose entry "pool" names the pool.
+// 3 is its context, whose entry "pool" names the pool; without this entry the name is empty.
 func (l *listing) addVolume(volume []byte) error {
 	var bytes uint64
 	var name string
@@ -204,7 +205,7 @@ func (l *listing) addVolume(volume []byte) error {
 	return err
 }
 
-// The series of pools, nodes and volumes.
+// The descriptions of the series that listings reports.
 var (
 	poolSize = newDesc("pool_size_bytes", "Bytes of a pool, by the configuration.", "pool")
 	poolUsed = newDesc("pool_used_bytes", "Bytes of a pool that its volumes take, by the last listing.", "pool")
@@ -231,8 +232,8 @@ func (l *listings) Describe(metrics chan<- *prometheus.Desc) {
 	}
 }
 
-// Collect reports the sizes and limits in the configuration. After the first complete listing, it
-// also reports how much of them is used.
+// Collect reports maxVolumes, and the sizes and limits in the configuration. After the first
+// complete listing, it also reports how much of them is used, and the time of the listing.
 func (l *listings) Collect(metrics chan<- prometheus.Metric) {
 	report := func(desc *prometheus.Desc, value float64, labels ...string) {
 		metrics <- prometheus.MustNewConstMetric(desc, prometheus.GaugeValue, value, labels...)

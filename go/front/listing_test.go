@@ -30,7 +30,7 @@ var room = &configuration{[]pool{{"p1", 10485760, nil}, {"p2", 4194304, nil}, {"
 	[]node{{"n1", 2}, {"n3", 4}}}
 
 // paging returns listings of a csid that answers ListVolumes with these pages, in hexadecimal, by
-// the message that asks for each. The channel gets the calls.
+// the message that asks for each. The channel receives the path and the message of each call.
 func paging(t *testing.T, pages map[string]string) (*listings, chan string) {
 	t.Helper()
 	asked := make(chan string, 99)
@@ -54,7 +54,8 @@ func paging(t *testing.T, pages map[string]string) (*listings, chan string) {
 	return l, asked
 }
 
-// A listing adds up all pages, up to the last one, whose token is empty.
+// A listing adds up all pages up to the last one, whose token is empty, and pauses between two
+// pages.
 func TestListing(t *testing.T) {
 	l, asked := paging(t, map[string]string{"": entry1 + "120131", "\x12\x011": entry2 + "120132", "\x12\x012": entry3})
 	l.pagePause = 20 * time.Millisecond
@@ -75,7 +76,7 @@ func TestListing(t *testing.T) {
 	}
 }
 
-// An incomplete listing changes no series, and is logged.
+// A listing that fails keeps the sums of the listing before it.
 func TestListingThatFails(t *testing.T) {
 	l, _ := paging(t, map[string]string{"": entry1 + "120131"})
 	before := &listing{volumes: 7}
@@ -152,8 +153,8 @@ func TestPaceOfListings(t *testing.T) {
 	<-ended
 }
 
-// The series of each pool and node of the configuration. Before the first listing there are only
-// their sizes and limits.
+// Collect reports the series of each pool and node of the configuration. Before the first listing
+// it reports only their sizes and limits.
 func TestMetricsOfListings(t *testing.T) {
 	l, _ := paging(t, map[string]string{"": entry1 + entry2 + entry3})
 	sizes := `
@@ -186,7 +187,8 @@ csid_front_pool_volumes{pool="p3"} 0
 `)
 }
 
-// wantsMetrics compares the lines of all series, in any order.
+// wantsMetrics compares the lines of all series that listings report with the wanted lines, in any
+// order.
 func wantsMetrics(t *testing.T, l *listings, want string) {
 	t.Helper()
 	registry := prometheus.NewRegistry()

@@ -25,15 +25,15 @@ const (
 type logger struct {
 	lines  *log.Logger
 	isJSON bool
-	// Whether a line of text begins with its time and level.
+	// True if a line of text begins with its time and level.
 	isTimed bool
-	// The lines that wait to be written, and the limit on the number of lines in a second; nil in
-	// tests.
+	// The lines that wait to be written, and the limit of writeFew; both nil in tests.
 	queue *logqueue.Queue
 	limit *lineLimit
 }
 
-// entry is a line in JSON. Empty fields are left out.
+// entry is a line in JSON. A line without a call or a change has none of their fields, and the
+// fields with omitempty are left out if they are empty.
 type entry struct {
 	Time    time.Time `json:"time"`
 	Level   string    `json:"level"`
@@ -62,7 +62,7 @@ func newLogger(out io.Writer, format string) *logger {
 }
 
 // newLog returns the log of the program. Writing a line never waits for the reader of standard
-// error. This also holds for the lines of packages: gRPC's errors, and lines for Go's standard log.
+// error. The log also takes the lines of libraries: gRPC's errors, and lines for Go's standard log.
 func newLog(out io.Writer, format string, isTimed bool) *logger {
 	queue := logqueue.New(out, func(count uint64) string {
 		var line strings.Builder
@@ -96,21 +96,21 @@ func (l *logger) write(text string, line entry) {
 }
 
 // writeFew writes a line that clients can cause any number of times. It writes at most linesASecond
-// such lines in a second. Then it counts them, and one line reports the counts.
+// such lines in a second. Further lines are counted, and one line reports the counts.
 func (l *logger) writeFew(text string, line entry) {
 	if l.limit.allows(line.Message, time.Now()) {
 		l.write(text, line)
 	}
 }
 
-// end writes the waiting lines, for at most the given time. It is called once, at the end of the
-// program.
+// end reports the lines that were left out, and waits at most for the time limit until all lines
+// are written. It is called once, at the end of the program.
 func (l *logger) end(limit time.Duration) {
 	l.limit.finish(time.Now())
 	l.queue.End(limit)
 }
 
-// leavesOut logs how many lines were left out, by message.
+// leavesOut logs how many lines writeFew has left out, by message.
 func (l *logger) leavesOut(counts map[string]uint64) {
 	text := fmt.Sprintf("lines left out, since more than %d came in a second: %s", linesASecond, shownCounts(counts))
 	l.write(text, entry{Level: logqueue.Warn, Message: "lines left out", LeftOut: counts})
@@ -146,20 +146,21 @@ func (l *logger) isReady() {
 	l.write(text, entry{Level: logqueue.Info, Message: text})
 }
 
-// refuses logs a refused call, with its volume and node if changes are logged. No other part of the
-// message is logged, since it may hold secrets.
+// refuses logs a call that was refused or got no reply. asked has the names and ids of the volume
+// and node; it is nil if changes are not logged. No other part of the message is logged, since it
+// may hold secrets.
 func (l *logger) refuses(socket, path string, asked *change, why *status.Status, took time.Duration) {
 	l.writeFew(endedLine(entry{Level: logqueue.Warn, Message: "call refused", Socket: socket}, path, asked, why, took))
 }
 
-// changes logs a change that csid made. No limit applies to such lines, since there are no more of
-// them than changes.
+// changes logs a call for a change that csid answered OK. The call may have changed nothing, for
+// example a repeated create. The limit of writeFew does not apply to such lines.
 func (l *logger) changes(socket, path string, asked *change, took time.Duration) {
 	l.write(endedLine(entry{Level: logqueue.Info, Message: "change", Socket: socket}, path, asked,
 		status.New(codes.OK, ""), took))
 }
 
-// endedLine returns the line about a call, as text and as JSON.
+// endedLine returns the line about a call, as text, and as an entry for JSON.
 func endedLine(line entry, path string, asked *change, why *status.Status, took time.Duration) (string, entry) {
 	line.endedCall, line.change = &endedCall{shownPath(path), why.Code(), why.Message(), took.Milliseconds()}, asked
 	call := line.endedCall
@@ -167,14 +168,15 @@ func endedLine(line entry, path string, asked *change, why *status.Status, took 
 		asked.words()), line
 }
 
-// malformed logs a malformed frame that came over a socket.
+// malformed logs a malformed frame that came over the socket with this name.
 func (l *logger) malformed(socket string, fault error) {
 	l.writeFew(via(socket)+fault.Error(), entry{Level: logqueue.Warn, Message: "malformed call", Socket: socket,
 		Error: fault.Error()})
 }
 
-// closedFor returns a function that logs that a connection was closed for another one. option is
-// the option of the socket, and limit is the greatest number of its open connections.
+// closedFor returns a function that logs that a connection was closed for another one. who names
+// the socket in JSON lines, option is its option, and limit is the greatest number of its open
+// connections.
 func (l *logger) closedFor(who, option string, limit int) func() {
 	return func() {
 		fmt.Fprintf(saying{l, who}, "a connection of %s without a call was closed for another one: %d were open",

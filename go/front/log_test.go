@@ -15,7 +15,8 @@ import (
 	"google.golang.org/grpc/status"
 )
 
-// Lines of packages are lines of the front. The last lines are written at the end.
+// Lines of Go's log and errors of gRPC are written as lines of the front. End waits until the last
+// line is written.
 func TestLinesOfPackages(t *testing.T) {
 	defer log.SetFlags(log.Flags())
 	defer log.SetOutput(log.Writer())
@@ -32,7 +33,7 @@ func TestLinesOfPackages(t *testing.T) {
 	}
 }
 
-// Lines of text begin with their time and level if standard error is not the journal.
+// Lines of text begin with their time and level if isTimed is true.
 func TestTimedLines(t *testing.T) {
 	defer log.SetFlags(log.Flags())
 	defer log.SetOutput(log.Writer())
@@ -52,7 +53,8 @@ func TestTimedLines(t *testing.T) {
 
 type fields = map[string]interface{}
 
-// Each line of the front in both formats. A number of JSON is a float64 to encoding/json.
+// Each kind of line of the front, as text and as the fields of its JSON without the time.
+// encoding/json decodes each number as a float64.
 var lineCases = []struct {
 	tell func(*logger)
 	text string
@@ -157,7 +159,8 @@ var lineCases = []struct {
 	},
 }
 
-// Each line has its time in UTC in every time zone.
+// Each line has the wanted text and the wanted fields. Its time in JSON is in UTC, also if the
+// local time zone is another one.
 func TestLines(t *testing.T) {
 	local := time.Local
 	time.Local = time.FixedZone("", 3600)

@@ -8,16 +8,17 @@ import (
 	"time"
 )
 
-// linesASecond is the greatest number of lines in a second about refused calls and from packages.
-// Further lines are counted.
+// linesASecond is the greatest number of lines that writeFew writes in a second: lines about
+// refused calls, malformed frames and closed connections, and lines of libraries.
 const linesASecond = 10
 
 // lineLimit lets linesASecond lines pass in a second, and counts further lines by kind. At the end
-// of the second it reports the counts. Then no line passes until a second has no line.
+// of the second it reports the counts. Then no line passes until a whole second brings no line.
 type lineLimit struct {
 	report func(counts map[string]uint64)
 	mutex  sync.Mutex
-	// When the second began, how many lines passed in it, and how many lines of each kind did not.
+	// The time at which the running second began, the number of lines that have passed in it, and
+	// the number of lines of each kind that have not.
 	begun  time.Time
 	passed int
 	counts map[string]uint64
@@ -48,7 +49,8 @@ func (l *lineLimit) allows(kind string, now time.Time) bool {
 	return false
 }
 
-// finish reports the counted lines, if there are any, and begins a second that lets no line pass.
+// finish reports the counted lines, and begins a second that lets no line pass. If no line was
+// counted, it does nothing.
 func (l *lineLimit) finish(now time.Time) {
 	if l == nil {
 		return

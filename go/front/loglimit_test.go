@@ -6,13 +6,13 @@ import (
 	"time"
 )
 
-// counted returns a limit, and a channel that gets its reports.
+// counted returns a limit, and a channel that receives the counts of each report.
 func counted() (*lineLimit, chan map[string]uint64) {
 	reports := make(chan map[string]uint64, 9)
 	return newLineLimit(func(counts map[string]uint64) { reports <- counts }), reports
 }
 
-// passed tries a number of lines of a kind at a time, and returns how many of them pass.
+// passed asks for a number of lines of one kind at the time now, and returns how many of them pass.
 func passed(l *lineLimit, lines int, kind string, now time.Time) (count int) {
 	for i := 0; i < lines; i++ {
 		if l.allows(kind, now) {
@@ -69,7 +69,7 @@ func TestReportOfLinesThatWereLeftOut(t *testing.T) {
 	wantsCounts(t, reports, map[string]uint64{"a": 2})
 }
 
-// Without a limit each line passes, as in tests.
+// If the limit is nil, as in tests, each line passes.
 func TestNoLimitOfLines(t *testing.T) {
 	var l *lineLimit
 	if count := passed(l, 20, "a", time.Now()); count != 20 {

@@ -26,7 +26,10 @@ import (
 	"fomaheti/sockets"
 )
 
-// The exit statuses. csid uses the same numbers for the same outcomes, except for 3.
+// The exit statuses: done after all calls have ended and for --help and --version, cutOff if calls
+// still ran, badWords for arguments that are refused, noReply if csid was silent for the time of
+// --standby, noSocket if a socket cannot be made or taking connections fails. csid uses the same
+// numbers for the same outcomes, except for 3.
 const (
 	done     = 0
 	cutOff   = 1
@@ -38,7 +41,7 @@ const (
 // version is the version of the repository. go/front/build takes it from the file VERSION.
 var version = "unknown"
 
-// How long the end of the front waits for its last lines to be written.
+// The longest time that the front waits, at its end, until its last lines are written.
 const lastLinesTime = time.Second
 
 func main() {
@@ -53,9 +56,9 @@ func main() {
 	os.Exit(status)
 }
 
-// useOneProcessor keeps all goroutines on one processor, unless GOMAXPROCS says otherwise. A call
-// passes through several goroutines, one after the other. Waking a goroutine on another processor
-// takes longer than its work.
+// useOneProcessor keeps all goroutines on one processor, unless the environment has GOMAXPROCS. A
+// call passes through several goroutines, one after the other. Waking a goroutine on another
+// processor takes longer than its work.
 func useOneProcessor() {
 	if os.Getenv("GOMAXPROCS") == "" {
 		runtime.GOMAXPROCS(1)
@@ -73,7 +76,7 @@ func run(asked options, err error, log *logger) int {
 		return badWords
 	}
 	if asked.version {
-		// A package installs the program under a longer name.
+		// The packages of packaging/ install the program under a longer name.
 		fmt.Println(filepath.Base(os.Args[0]), version)
 		return done
 	}
@@ -105,14 +108,14 @@ type front struct {
 	handler *handler
 	control *control
 	stop    chan os.Signal
-	// Failures to take connections, for gRPC or at --metrics.
+	// Receives failures to take connections, for gRPC or at --metrics.
 	failed chan error
-	// The error that csid gave no reply for the time of --standby. It comes only with --standby and
-	// without --node.
+	// Receives an error if csid has given no reply for the time of --standby. Used only with
+	// --standby and without --node.
 	silent chan error
 }
 
-// fails logs why the front ends, and returns the exit status.
+// fails logs why the front ends, and returns status, the exit status.
 func (f *front) fails(why error, status int) int {
 	f.log.fails(why)
 	return status
@@ -142,8 +145,8 @@ func take(server *grpc.Server, listener net.Listener) error {
 	return errors.New("taking connections ended")
 }
 
-// end takes no further calls, and waits until the running calls end. It stops waiting after the
-// time of --grace or at a second signal. It returns the exit status.
+// end takes no further calls, and waits until the running calls end: then it returns done. After
+// the time of --grace, or at a second signal, it returns cutOff.
 func (f *front) end(server *grpc.Server) int {
 	ended := make(chan struct{})
 	go func() {

@@ -11,11 +11,12 @@ import (
 	"google.golang.org/grpc/status"
 )
 
-// lookTime is the time between two checks that a message is late.
+// lookTime is the time between two checks of a message that has not come.
 const lookTime = 50 * time.Millisecond
 
 // errLate is the error of a call whose message came too slowly while other calls waited. The part
-// that was received is dropped. Otherwise memory would have no bound.
+// of the message that was received is dropped: otherwise slow messages could use memory without
+// bound.
 var errLate = status.Error(codes.Unavailable, "the message did not come in time, and other calls wait")
 
 // messages bounds the total size of the messages of all calls that wait to be sent or wait for
@@ -32,7 +33,8 @@ func newMessages(limit int) *messages {
 	return &messages{places: newPlaces(), idle: make(chan *receiver, maxReceived), limit: limit}
 }
 
-// read waits for a place, and then receives the message of a call.
+// read waits for a place, and then receives the message of a call. It fails with errLate if the
+// message is late.
 func (m *messages) read(stream grpc.ServerStream) ([]byte, error) {
 	client := clientOf(stream.Context())
 	if err := m.places.take(stream.Context(), client); err != nil {
@@ -42,8 +44,8 @@ func (m *messages) read(stream grpc.ServerStream) ([]byte, error) {
 	return m.inTime(func() ([]byte, error) { return onlyMessage(stream) })
 }
 
-// receive receives the message of a call, and counts it until giveBack is called. It fails if there
-// is no room for the message.
+// receive receives the message of a call, and counts its bytes until giveBack is called. If the
+// limit has no room for the message, it fails with UNAVAILABLE.
 func (m *messages) receive(stream grpc.ServerStream) ([]byte, error) {
 	message, err := m.read(stream)
 	if err != nil {
@@ -57,7 +59,7 @@ func (m *messages) receive(stream grpc.ServerStream) ([]byte, error) {
 }
 
 // take counts a message of this length, and returns false if there is no room for it. There is
-// always room for an empty message, such as that of Probe.
+// always room for an empty message, such as the message of Probe.
 func (m *messages) take(bytes int) bool {
 	m.mutex.Lock()
 	defer m.mutex.Unlock()
@@ -106,7 +108,8 @@ func (m *messages) receiver() *receiver {
 	}
 }
 
-// keep keeps a receiver for the next message, unless enough are kept.
+// keep keeps a receiver for a later message, or ends it if maxReceived idle receivers are kept
+// already.
 func (m *messages) keep(r *receiver) {
 	r.message, r.err = nil, nil
 	select {
@@ -116,8 +119,8 @@ func (m *messages) keep(r *receiver) {
 	}
 }
 
-// inTime returns the received message, or errLate if it is late. Receiving a late message goes on
-// until the call ends, and its receiver is not used again.
+// inTime returns the message, or the error of receiving it, or errLate if the message is late.
+// Receiving a late message goes on until the call ends, and its receiver is not used again.
 func (m *messages) inTime(receive func() ([]byte, error)) ([]byte, error) {
 	begin, r := time.Now(), m.receiver()
 	r.next <- receive
@@ -131,8 +134,8 @@ func (m *messages) inTime(receive func() ([]byte, error)) ([]byte, error) {
 	return message, err
 }
 
-// isDone lets the receiver run first, and reports whether it has the message. Most messages come
-// together with the headers of their calls.
+// isDone lets the receiver run first, and then reports whether it has the message or an error. Most
+// messages come together with the headers of their calls.
 func (r *receiver) isDone() bool {
 	runtime.Gosched()
 	select {
@@ -143,7 +146,8 @@ func (r *receiver) isDone() bool {
 	}
 }
 
-// awaits waits for a receiver, and returns false if its message is late.
+// awaits waits until a receiver has its message or an error. It returns false as soon as it finds
+// the message late.
 func (m *messages) awaits(r *receiver, begin time.Time) bool {
 	looks := time.NewTicker(lookTime)
 	defer looks.Stop()

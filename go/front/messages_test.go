@@ -25,8 +25,8 @@ func TestMessagesThatWait(t *testing.T) {
 	}
 }
 
-// A message that does not come ends its call only while another call waits and no other message
-// comes.
+// A call whose message does not come is ended only while another call waits for a place and no
+// other message comes.
 func TestMessagesThatAreLate(t *testing.T) {
 	m := newMessages(10)
 	never := make(chan struct{})
@@ -67,7 +67,7 @@ func TestMessagesThatAreLate(t *testing.T) {
 	}
 }
 
-// A receiver is kept for the next message, and does not keep the last one. If enough receivers are
+// A receiver is kept for a later message, without its last message. If maxReceived receivers are
 // kept, a further one ends.
 func TestReceiversThatAreKept(t *testing.T) {
 	m := newMessages(10)

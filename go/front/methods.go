@@ -1,6 +1,7 @@
 package main
 
-// Paths that the front itself calls or answers.
+// The services and paths that the front must know: it calls or answers them itself, sends them to
+// the node plugin, or logs their changes.
 const (
 	identity     = "/csi.v1.Identity/"
 	controller   = "/csi.v1.Controller/"
@@ -15,8 +16,8 @@ const (
 	unpublishVolume = controller + "ControllerUnpublishVolume"
 )
 
-// otherMethod is the label in the metrics for all methods that are not in the tables below. A
-// client can call any path, and each label is a series.
+// otherMethod is the label in the metrics for all paths except healthCheck and the methods in the
+// tables below. A client can call any path, and each label is a series.
 const otherMethod = "other"
 
 // methods are the methods that csid answers (docs/PROTOCOL.md, "Paths").

@@ -18,7 +18,8 @@ const namespace = "csid_front"
 // longest deadlines of sidecars.
 var buckets = []float64{.001, .0025, .005, .01, .025, .05, .1, .25, .5, 1, 2.5, 5, 10, 30, 60}
 
-// metrics counts the calls of clients.
+// metrics has the counters and durations of calls of clients, the number of calls that wait, and
+// the number of refusals by csid with one of the openReasons.
 type metrics struct {
 	calls    *prometheus.CounterVec
 	seconds  *prometheus.HistogramVec
@@ -28,8 +29,8 @@ type metrics struct {
 	series map[string]*series
 }
 
-// series has the series of one method: the numbers of answered calls by code, and the durations.
-// The series of durations is made at the first call.
+// series has the series of one method: the numbers of ended calls by code, and their durations. The
+// series of durations is made at the first call.
 type series struct {
 	calls   [codes.Unauthenticated + 1]prometheus.Counter
 	once    sync.Once
@@ -61,7 +62,7 @@ func newMetrics() *metrics {
 	return m
 }
 
-// begin makes the counters of some methods, with the value 0. Prometheus sees no increase of a
+// begin makes the counters of the given methods, with the value 0. Prometheus sees no increase of a
 // counter that begins at 1.
 func (m *metrics) begin(methods map[string]bool) {
 	for method := range methods {
@@ -77,7 +78,7 @@ func newCounter(name, help string) prometheus.Counter {
 	return prometheus.NewCounter(prometheus.CounterOpts{Namespace: namespace, Name: name, Help: help})
 }
 
-// ended counts a call that was answered.
+// ended counts a call that ended with this code, and records how long it took.
 func (m *metrics) ended(path string, code codes.Code, took time.Duration) {
 	if own := m.series[path]; own != nil && int(code) < len(own.calls) {
 		own.once.Do(func() { own.seconds = m.seconds.WithLabelValues(path) })
@@ -170,8 +171,8 @@ func buildInfo() prometheus.Collector {
 	return info
 }
 
-// csidCollector asks csid at each scrape whether it is ready, and how many bytes are free for each
-// topology.
+// csidCollector asks csid at each scrape: by Probe if csid is ready, and by GetCapacity for the
+// free bytes of each topology.
 type csidCollector struct {
 	handler    *handler
 	topologies []topology
@@ -195,7 +196,8 @@ func (c *csidCollector) Describe(out chan<- *prometheus.Desc) {
 	out <- c.capacity
 }
 
-// Collect leaves out a topology if csid does not answer with its capacity. The log has the reason.
+// Collect reports no capacity if csid is not ready, and leaves out a topology if csid does not
+// answer with its capacity. The log has the reason.
 func (c *csidCollector) Collect(out chan<- prometheus.Metric) {
 	ctx, cancel := context.WithTimeout(context.Background(), questionTime)
 	defer cancel()

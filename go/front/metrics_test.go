@@ -18,7 +18,7 @@ func inFront(path string) *handler {
 	return newHandler(options{csid: path, late: time.Minute, waiting: 1}, newLogger(io.Discard, textLines))
 }
 
-// The methods with a label are the methods in docs/PROTOCOL.md.
+// The table methods has exactly the methods in docs/PROTOCOL.md.
 func TestMethodsOfTheProtocol(t *testing.T) {
 	page, err := os.ReadFile("../../docs/PROTOCOL.md")
 	if err != nil {
@@ -56,7 +56,8 @@ func TestMethodLabel(t *testing.T) {
 	}
 }
 
-// The names and help texts follow Prometheus' conventions, and no metric occurs twice.
+// The names and help texts of all metrics follow Prometheus' conventions, and no metric occurs
+// twice.
 func TestConventions(t *testing.T) {
 	_, path := listening(t)
 	h := inFront(path + ".absent")

@@ -12,8 +12,8 @@ import (
 	"google.golang.org/grpc/status"
 )
 
-// The greatest numbers of scrapes and of health requests that are answered at once. Each of them
-// asks csid.
+// The greatest numbers of scrapes and of health requests that are answered at once. Each scrape and
+// each health request asks csid.
 const (
 	maxScrapes      = 4
 	maxHealthChecks = 4
@@ -28,12 +28,12 @@ const (
 )
 
 // maxRequestBytes is the greatest size of the first line and the headers of a request. net/http
-// reads 4 KiB more before it refuses a request. Ten thousand short headers would take some MiB of
-// memory.
+// reads 4 KiB more before it refuses a request. With a greater limit, a request with ten thousand
+// short headers would take some MiB of memory.
 const maxRequestBytes = 8 << 10
 
-// newMonitor returns the handler for monitoring: /metrics for Prometheus, /healthz for a liveness
-// probe, and /livez for the liveness probe of a front with --standby.
+// newMonitor returns the handler for monitoring: /metrics for Prometheus, /healthz for a health
+// check of csid and the node plugin, and with --standby /livez for a liveness probe.
 func newMonitor(h *handler, topologies []topology, listings *listings) http.Handler {
 	mux := http.NewServeMux()
 	mux.Handle("/metrics", promhttp.HandlerFor(newRegistry(h, topologies, listings),
@@ -59,7 +59,7 @@ func newMonitorServer(monitor http.Handler, log *log.Logger) *http.Server {
 	}
 }
 
-// watcher is the key of the connection in the context of a request.
+// watcher is the key under which the context of a request has its connection.
 type watcher struct{}
 
 func withWatcher(ctx context.Context, conn net.Conn) context.Context {
@@ -77,8 +77,8 @@ func duringRequests(next http.Handler) http.Handler {
 	})
 }
 
-// startMonitor begins to serve --metrics, if the option is given. If serving ends, the reason is
-// sent to failed, since only the end of the front should end it.
+// startMonitor begins to serve --metrics, if the option is given. If serving fails later, the
+// reason is sent to failed, and the front must end.
 func startMonitor(h *handler, asked options, failed chan<- error) error {
 	if asked.metrics == "" {
 		return nil
@@ -100,7 +100,8 @@ func startMonitor(h *handler, asked options, failed chan<- error) error {
 	return nil
 }
 
-// healthz answers "ok" if a Probe succeeds, and otherwise 503 with the reason.
+// healthz answers "ok" if csid is ready, and the node plugin too if there is one. Otherwise it
+// answers 503 with the reason.
 func (h *handler) healthz(answer http.ResponseWriter, request *http.Request) {
 	if err := h.checkInTurn(request.Context(), h.isReady); err != nil {
 		http.Error(answer, status.Convert(err).Message(), http.StatusServiceUnavailable)
@@ -109,8 +110,8 @@ func (h *handler) healthz(answer http.ResponseWriter, request *http.Request) {
 	fmt.Fprintln(answer, "ok")
 }
 
-// checkInTurn runs a check as soon as fewer than maxHealthChecks others run. It takes at most
-// questionTime.
+// checkInTurn runs a check as soon as fewer than maxHealthChecks others run. The wait and the check
+// take at most questionTime together.
 func (h *handler) checkInTurn(ctx context.Context, check func(context.Context) error) error {
 	ctx, cancel := context.WithTimeout(ctx, questionTime)
 	defer cancel()

@@ -18,7 +18,8 @@ func asks(h *handler, path string, limit time.Duration) (status int, text string
 }
 
 // If the greatest number of health checks run, a further one waits. If it gets no turn in time,
-// /livez reports that csid hangs only if csid was silent.
+// /healthz answers 503. /livez then reports that csid hangs only if csid was silent for
+// questionTime.
 func TestHealthChecksThatWait(t *testing.T) {
 	h := replying(t, "00 0000 00 00000000")
 	h.standsBy = true

@@ -12,9 +12,9 @@ import (
 )
 
 // maxNodeCalls is the greatest number of calls of the Node service that run at once. Their messages
-// take at most 64 MiB, which is also the default limit for messages that wait for csid. One client
-// can have four times as many calls. So if the plugin hangs, three quarters of them are left for
-// csid.
+// take at most 64 MiB, which is also the default limit for messages that wait for csid. One
+// connection of a client can have four times as many calls (maxWaitingCalls). So if the plugin
+// hangs, three quarters of these calls are left for csid.
 const maxNodeCalls = 64
 
 // maxNodeProbes is the greatest number of Probes that the plugin gets at once. Probes do not count
@@ -32,7 +32,7 @@ var (
 
 // nodePlugin is the client of the node plugin, which answers the Node service on another socket.
 // Each call has a new connection, as a kubelet's calls have. Such calls are few, and take longer
-// than connecting. No call meets a connection that ended with the plugin.
+// than connecting. So no call is sent over a connection to a plugin that has ended.
 type nodePlugin struct {
 	path          string
 	calls, probes slots
@@ -98,7 +98,7 @@ func (n *nodePlugin) connect(ctx context.Context) (*grpc.ClientConn, error) {
 // slots limits how many calls run at once. A running call holds one of its places.
 type slots chan struct{}
 
-// take takes a place, and reports whether there was one.
+// take takes a place if one is free, and reports whether one was.
 func (s slots) take() bool {
 	select {
 	case s <- struct{}{}:

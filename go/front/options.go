@@ -21,10 +21,10 @@ usage: front --csid PATH [--listen PATH] [--node PATH] [--grace TIME] [--late TI
        front --version
 `
 
-// The most that --waiting can ask for, in MiB.
+// The greatest value of --waiting, in MiB.
 const maxWaiting = 1 << 20
 
-// options has the values of the command line.
+// options has the values of the command line. Sockets are paths, without unix: or unix://.
 type options struct {
 	listen string
 	csid   string
@@ -34,14 +34,14 @@ type options struct {
 	late      time.Duration
 	waiting   int
 	logFormat string
-	// Whether each change is logged.
+	// True if each change is logged.
 	logChanges bool
 	// The path of the control socket, empty without --control. controlGroup is the name or number
 	// of a group that may connect to it, or empty.
 	control      string
 	controlGroup string
-	// How long csid may give no reply before the front ends. 0 without --standby: then there is no
-	// limit, and the front makes its socket without waiting for csid.
+	// The time for which csid may give no reply before the front ends. It is 0 without --standby:
+	// then there is no limit, and the front makes its socket without waiting for csid.
 	standby time.Duration
 	health  bool
 	// The HOST:PORT for metrics; empty without --metrics.
@@ -52,8 +52,9 @@ type options struct {
 	version       bool
 }
 
-// readOptions parses the arguments. endpoint is the value of CSI_ENDPOINT, which counts if --listen
-// is not given. Help is written to shown.
+// readOptions parses and checks the arguments. endpoint is the value of CSI_ENDPOINT, which counts
+// if --listen is not given. For --help it writes the usage to shown, and returns flag.ErrHelp. With
+// --version it checks no other value.
 func readOptions(given []string, endpoint string, shown io.Writer) (options, error) {
 	var asked options
 	flags := flag.NewFlagSet("front", flag.ContinueOnError)
@@ -178,7 +179,8 @@ func checkMetrics(asked options) error {
 	return nil
 }
 
-// checkConfiguration refuses --config if neither --metrics nor --control is given to show it.
+// checkConfiguration refuses --config without --control. It is called only without --metrics, and
+// one of the two must show the configuration.
 func checkConfiguration(asked options) error {
 	if asked.configuration != nil && asked.control == "" {
 		return errors.New("--config: there is neither --metrics nor --control")
@@ -201,8 +203,8 @@ func (asked *options) setConfiguration(path string) (err error) {
 	return err
 }
 
-// addTopology adds the topology of one --metrics-topology. It refuses a topology that was given
-// before, since each is one series.
+// addTopology adds the topology of one --metrics-topology. It refuses a name that was given before,
+// since each name is one series.
 func (asked *options) addTopology(name string) error {
 	added, err := readTopology(name)
 	if err != nil {

@@ -3,8 +3,8 @@ package main
 import "time"
 
 // The least and the greatest pause between the beginnings of two connections. The pause doubles
-// after each connection without a reply. csid opens and checks its whole file for each connection,
-// even for one that is abandoned.
+// after each connection without a reply, since csid opens and checks its whole file for each
+// connection, even for one that the front abandons.
 const (
 	leastPause    = 100 * time.Millisecond
 	greatestPause = time.Second

@@ -25,7 +25,8 @@ const (
 	numberedReply = 8 + 4
 )
 
-// table has the changes that a csid made, as the numbers of their calls, in order.
+// table has the changes that a csid made, as the numbers of their calls, in the order in which it
+// made them.
 type table struct {
 	mutex sync.Mutex
 	made  []uint32
@@ -107,7 +108,7 @@ type caller struct {
 
 func newCaller(b *backend) *caller { return &caller{b, make(chan result, 100)} }
 
-// begins makes a call, and waits until it is among those that wait or are on their way.
+// begins makes a call, and waits until the call waits to be sent or is on its way.
 func (c *caller) begins(t *testing.T, ctx context.Context, number uint32) {
 	t.Helper()
 	waiting, sent := count(c.b)
@@ -150,7 +151,8 @@ func (c *caller) served(t *testing.T, calls int) {
 }
 
 // onTheirWay is a backend whose first connection has served call 0 and has the calls from 1 on
-// their way. conn is the other end of this connection. Further connections are served.
+// their way. conn is the other end of this connection. Further connections are served with the
+// function later of sendsBefore.
 type onTheirWay struct {
 	*caller
 	conn        net.Conn
@@ -198,7 +200,8 @@ func sendsBefore(t *testing.T, count int, contexts map[uint32]context.Context,
 	return s
 }
 
-// concurrentCsid plays a csid that serves several connections at once. Their numbers begin at 1.
+// concurrentCsid plays a csid that serves several connections at once. serve gets each connection
+// with its number, from 1 on.
 func concurrentCsid(t *testing.T, serve func(net.Conn, int32)) (path string, connections *int32) {
 	t.Helper()
 	listener, path := listening(t)
@@ -233,7 +236,7 @@ func (e ending) String() string {
 	return fmt.Sprintf("%d calls, %d bytes read, each whole one answered", e.calls, e.reads)
 }
 
-// ends ends the connection.
+// ends reads and answers the calls of the first connection as e says, and closes the connection.
 func (e ending) ends(s *onTheirWay) {
 	awaitBytes(s.conn, e.calls*numberedCall)
 	stream := make([]byte, e.reads)
@@ -250,8 +253,9 @@ func (e ending) ends(s *onTheirWay) {
 	s.conn.Close()
 }
 
-// lost returns the number of the call that gets no reply, or 0. It is the first call without a
-// reply, unless this call is alone and csid did not read all of it.
+// lost returns the number of the call that gets an error, or 0 if each call gets its reply. It is
+// the first call without a complete reply. If this call is the only one, and csid did not read all
+// of it, it is sent again instead, and lost returns 0.
 func (e ending) lost() uint32 {
 	whole := e.reads / numberedCall
 	switch {
@@ -280,8 +284,8 @@ func endings(calls int) (all []ending) {
 	return all
 }
 
-// check checks that each call had one outcome, and that each change was made once, in the order of
-// the calls. The change of the lost call may be missing.
+// check checks that each call but the lost one had its own reply, and that its change was made
+// once, in the order of the calls. The lost call must have an error, and its change may be missing.
 func (e ending) check(t *testing.T, s *onTheirWay) {
 	t.Helper()
 	results, counts := s.all(t, e.calls), s.made.counts()
@@ -336,7 +340,8 @@ func TestConnectionThatEnds(t *testing.T) {
 }
 
 // After a refused change, csid answers further changes that its store is down. These calls are sent
-// again, in order and before a newer call. All other calls have their replies.
+// again, in the order in which they were sent first, and before a newer call. All other calls have
+// their replies.
 func TestCallsAfterARefusedChange(t *testing.T) {
 	for _, c := range []refusedChange{
 		{"the first", 1, false, 0},
@@ -359,8 +364,9 @@ func TestCallsAfterARefusedChange(t *testing.T) {
 	}
 }
 
-// refusedChange says which of 16 calls is refused, whether the call after it needs no store, and
-// after how many further replies csid ends the connection. With 0 the front ends it.
+// refusedChange describes a csid that refuses one of 16 calls: the call with the number refused.
+// readsNext is true if the call after it changes nothing. ends is the number of further replies
+// after which csid ends the connection. If ends is 0, the front ends the connection.
 type refusedChange struct {
 	name      string
 	refused   uint32
@@ -368,7 +374,8 @@ type refusedChange struct {
 	ends      int
 }
 
-// reads reports whether the call needs no store.
+// reads reports whether the call with this number changes nothing, and so is answered OK although
+// the store is down.
 func (c refusedChange) reads(number uint32) bool {
 	return c.readsNext && number == c.refused+1
 }
@@ -420,12 +427,13 @@ func (c refusedChange) check(t *testing.T, s *onTheirWay) {
 	}
 }
 
-// A call is sent again once at most. Then it has the reply that comes, or none.
+// A call is sent again once at most. If it is refused again, this is its reply. If it is lost
+// again, it has an error.
 func TestCallIsSentAgainOnce(t *testing.T) {
 	rows := []struct {
 		name string
-		// What csid answers to the third and the fourth call over the second connection, before it
-		// closes this connection. want checks the outcome of the fourth call.
+		// The replies of csid to the third and the fourth call over the second connection, before
+		// it closes this connection; nil for no reply. want checks the outcome of the fourth call.
 		third, fourth []byte
 		want          func(result) bool
 	}{
@@ -467,7 +475,7 @@ func TestCallIsSentAgainOnce(t *testing.T) {
 	}
 }
 
-// Replies go to their calls in order, even if the first reply takes long.
+// Each reply goes to its own call, even if the first reply takes long. The connection stays open.
 func TestSlowReplyBeforeFastOnes(t *testing.T) {
 	s := sends(t, 16, nil)
 	time.Sleep(100 * time.Millisecond)
@@ -505,7 +513,7 @@ func givesUp(t *testing.T, numbers ...uint32) (contexts map[uint32]context.Conte
 	}
 }
 
-// A caller that gives up while its call is on its way is answered at once. The reply is dropped
+// A caller that gives up while its call is on its way gets its error at once. The reply is dropped
 // when it comes. The other calls get their replies over the same connection.
 func TestCallersThatGiveUpOnTheWay(t *testing.T) {
 	for _, gone := range [][]uint32{{1}, {5}, {16}, {1, 2, 3, 16}} {
@@ -542,8 +550,8 @@ func TestDeadlineOnTheWay(t *testing.T) {
 	s.all(t, 15)
 }
 
-// A call whose caller gave up is not sent again, whether csid left it unread or answered that its
-// store is down.
+// A call whose caller gave up is not sent again, also if csid left the call unread or answered that
+// its store is down.
 func TestCallerThatGaveUpIsNotSentAgain(t *testing.T) {
 	contexts, giveUp := givesUp(t, 2, 5)
 	s := sends(t, 6, contexts)
@@ -569,7 +577,7 @@ func TestCallerThatGaveUpIsNotSentAgain(t *testing.T) {
 	}
 }
 
-// Calls beyond the greatest number on their way, or the most bytes, wait.
+// If the greatest number of calls is on their way, or the most bytes of frames, further calls wait.
 func TestLimitsOfCallsOnTheirWay(t *testing.T) {
 	rows := []struct {
 		name        string
@@ -647,7 +655,7 @@ func TestNewConnectionHasOneCall(t *testing.T) {
 	c.all(t, 5)
 }
 
-// A slow csid gets one call at a time.
+// If csid usually takes promptTime for a call, one call at a time is on its way.
 func TestSlowCsidHasOneCall(t *testing.T) {
 	let := make(chan struct{})
 	path, _ := concurrentCsid(t, func(conn net.Conn, _ int32) {
@@ -715,7 +723,7 @@ func TestRepliesThatEndAConnection(t *testing.T) {
 }
 
 // If the first call was given up and its reply is late, the connection ends. The calls after it are
-// sent again, except those that were given up.
+// sent again, except the calls that were given up.
 func TestLateReplyBeforeOtherCalls(t *testing.T) {
 	contexts, giveUp := givesUp(t, 1, 3)
 	s := sends(t, 4, contexts)
@@ -736,8 +744,8 @@ func TestLateReplyBeforeOtherCalls(t *testing.T) {
 	}
 }
 
-// The front reads the replies that csid wrote before it ends a connection, so it knows the first
-// unanswered call.
+// When the front ends a connection, it still reads the replies that csid wrote before. So the first
+// call without a reply gets the error, and the calls after it are sent again.
 func TestRepliesBeforeTheFrontEndsAConnection(t *testing.T) {
 	for replies := uint32(0); replies < 4; replies++ {
 		s, why := sends(t, 4, nil), errors.New("the front ends it")
@@ -780,8 +788,8 @@ func TestGivenUpAfterAPatientCaller(t *testing.T) {
 	}
 }
 
-// When a call that was given up becomes the first call without a reply, its reply must come in
-// time.
+// When a call that was given up becomes the first call without a reply, its reply must come within
+// the time of --late. Otherwise the connection ends.
 func TestGivenUpAfterACallThatIsAnswered(t *testing.T) {
 	contexts, giveUp := givesUp(t, 2)
 	s := sends(t, 3, contexts)
@@ -795,8 +803,9 @@ func TestGivenUpAfterACallThatIsAnswered(t *testing.T) {
 	}
 }
 
-// endsAtRandom is a csid that serves one connection at a time, and ends each at a random place:
-// between two calls, within one, before, within or after a reply, or after it refused a change.
+// endsAtRandom starts a csid, and returns the path of its socket. The csid serves one connection at
+// a time, and ends each at a random point: between two calls, within a call, before, within or
+// after a reply, or after it refused a change.
 func endsAtRandom(t *testing.T, made *table, seed int64) string {
 	t.Helper()
 	source := rand.New(rand.NewSource(seed))
@@ -837,7 +846,8 @@ func endsAtRandom(t *testing.T, made *table, seed int64) string {
 	return path
 }
 
-// How long calls are made while connections end at random. FRONT_STRESS sets another time.
+// The time for which calls are made while connections end at random. FRONT_STRESS sets another
+// time.
 var stressTime = func() time.Duration {
 	if asked, err := time.ParseDuration(os.Getenv("FRONT_STRESS")); err == nil {
 		return asked
@@ -845,11 +855,12 @@ var stressTime = func() time.Duration {
 	return 4 * time.Second
 }()
 
-// tally counts the outcomes of calls.
+// tally counts calls by outcome: served with OK, given up (gone), and refused or lost.
 type tally struct{ served, refused, gone atomic.Int32 }
 
-// callsAtRandom makes calls in sequence for some time, with rising numbers. It gives up some of
-// them, and some have long messages. It notes which were answered.
+// callsAtRandom makes calls one after the other until the time until, with rising numbers. It gives
+// up some of them, and some have long messages. It stores the numbers of the calls that were
+// answered OK.
 func callsAtRandom(t *testing.T, b *backend, caller uint32, until time.Time, answered *sync.Map, counts *tally) {
 	source := rand.New(rand.NewSource(int64(caller) + until.UnixNano()))
 	for number := caller << 20; time.Now().Before(until); {
@@ -881,7 +892,7 @@ func callsAtRandom(t *testing.T, b *backend, caller uint32, until time.Time, ans
 }
 
 // areOnce checks that each answered change was made once, that no change was made twice, and that
-// the changes of each caller are in its order.
+// the changes of each caller were made in the order of their numbers.
 func (t *table) areOnce(test *testing.T, answered *sync.Map) {
 	last, made := map[uint32]uint32{}, map[uint32]bool{}
 	for _, number := range t.rows() {
@@ -899,8 +910,8 @@ func (t *table) areOnce(test *testing.T, answered *sync.Map) {
 }
 
 // With many callers, and connections that end at random places, an answered change is made once,
-// and any other change at most once. The changes of one caller are made in its order, including the
-// calls that it gave up.
+// and any other change at most once. The changes of one caller are made in the order of its calls,
+// including the calls that it gave up.
 func TestManyCallersOverConnectionsThatEnd(t *testing.T) {
 	seed, until := time.Now().UnixNano(), time.Now().Add(stressTime)
 	t.Logf("seed %d", seed)

@@ -9,13 +9,14 @@ import (
 	"google.golang.org/grpc/status"
 )
 
-// maxReceived is the greatest number of messages that are received at once. The length of a message
-// is known only when all of it has come.
+// maxReceived is the greatest number of messages that are received at once. The limit of --waiting
+// cannot count these messages: the length of a message is known only when all of it has come.
 const maxReceived = 16
 
 // The times after which a message is late while other calls wait for a place. Each message is late
 // after placeTime. While a connection waits that has no place at all, a message is late after
-// shareTime. If no message came for stillTime, all of them are late, since their clients hang.
+// shareTime. If no message came for stillTime, all messages that are being received are late, since
+// their clients hang.
 const (
 	placeTime = 5 * time.Second
 	shareTime = time.Second
@@ -24,14 +25,14 @@ const (
 
 // places limits how many messages are received at once: a call holds a place while its message is
 // received. A free place goes to the connection with the fewest places, and there to the call that
-// has waited the longest. So no connection keeps the others out, however many calls it has.
+// has waited the longest. So no connection keeps the others out, even with any number of calls.
 type places struct {
 	mutex  sync.Mutex
 	free   int
 	shares map[*clientConn]*share
-	// How many calls wait for a place, and how many have begun to wait since the start. stillSince
-	// is the time at which the last message came, or at which the calls began to wait, if that was
-	// later.
+	// The number of calls that wait for a place, and the number of calls that have begun to wait
+	// since the start of the front. stillSince is the time at which the last message came, or at
+	// which the calls began to wait, if that was later.
 	waiting    int
 	numbers    uint64
 	stillSince time.Time
@@ -43,7 +44,8 @@ type share struct {
 	queue list.List
 }
 
-// turn is a call that waits for a place. The channel came is closed when the call gets the place.
+// turn is a call that waits for a place. number is its position among all calls that have begun to
+// wait, from 1 on. The channel came is closed when the call gets its place.
 type turn struct {
 	number uint64
 	came   chan struct{}
@@ -53,7 +55,7 @@ func newPlaces() *places {
 	return &places{free: maxReceived, shares: map[*clientConn]*share{}}
 }
 
-// take waits until a call of a connection gets a place. It fails if the context ends first.
+// take waits until a call of the connection gets a place. It fails if the context ends first.
 func (p *places) take(ctx context.Context, client *clientConn) error {
 	waits := p.begin(client)
 	if waits == nil {
@@ -68,7 +70,8 @@ func (p *places) take(ctx context.Context, client *clientConn) error {
 	}
 }
 
-// begin takes a free place. Otherwise it returns the position of the call in the queue.
+// begin takes a free place and returns nil. If no place is free, it returns the element of the call
+// in the queue of its connection.
 func (p *places) begin(client *clientConn) *list.Element {
 	p.mutex.Lock()
 	defer p.mutex.Unlock()
@@ -106,7 +109,7 @@ func (p *places) leave(client *clientConn, waits *list.Element) {
 	p.forget(client)
 }
 
-// giveBack gives the place of a connection to the next call.
+// giveBack takes a place from a connection, and gives it to the next waiting call, if there is one.
 func (p *places) giveBack(client *clientConn) {
 	p.mutex.Lock()
 	defer p.mutex.Unlock()
@@ -115,7 +118,7 @@ func (p *places) giveBack(client *clientConn) {
 	p.forget(client)
 }
 
-// handOn gives a free place to the next call, if any waits.
+// handOn gives a place to the next waiting call. If no call waits, the place becomes free.
 func (p *places) handOn() {
 	if p.waiting == 0 {
 		p.free++
@@ -127,7 +130,7 @@ func (p *places) handOn() {
 	close(next.queue.Remove(next.queue.Front()).(*turn).came)
 }
 
-// next returns the share whose call gets the next place. At least one call must wait.
+// next returns the share whose first waiting call gets the next place. At least one call must wait.
 func (p *places) next() (next *share) {
 	for _, one := range p.shares {
 		if one.queue.Len() > 0 && (next == nil || one.isBefore(next)) {
@@ -148,7 +151,8 @@ func (s *share) isBefore(other *share) bool {
 
 func (s *share) first() uint64 { return s.queue.Front().Value.(*turn).number }
 
-// forget drops the share of a connection that has no place, and whose calls wait for none.
+// forget drops the share of a connection if the connection has no place and none of its calls waits
+// for one.
 func (p *places) forget(client *clientConn) {
 	if own := p.shares[client]; own.held == 0 && own.queue.Len() == 0 {
 		delete(p.shares, client)
@@ -162,8 +166,8 @@ func (p *places) messageCame() {
 	p.stillSince = time.Now()
 }
 
-// isLate reports whether a message is late. begin is the time at which the front began to receive
-// it.
+// isLate reports whether a message that has not come is late. begin is the time at which the front
+// began to receive it. No message is late while no call waits for a place.
 func (p *places) isLate(begin time.Time) bool {
 	p.mutex.Lock()
 	defer p.mutex.Unlock()

@@ -12,7 +12,8 @@ import (
 	"google.golang.org/grpc/status"
 )
 
-// fill takes all places for a connection, and waits makes a call of it wait for one.
+// fill takes all free places for a connection, and waits makes a call of the connection wait for a
+// place.
 func fill(p *places, client *clientConn) {
 	for p.free > 0 {
 		p.begin(client)
@@ -31,8 +32,9 @@ func has(waits *list.Element) bool {
 	}
 }
 
-// A message is late only if calls wait for a place. It is late after 5 seconds. It is late after a
-// second if no message came, or if a connection without a place waits.
+// A message is late only while a call waits for a place. It is late after 5 seconds, or after a
+// second while a connection without a place waits. Each message is late if no message came for a
+// second.
 func TestLateness(t *testing.T) {
 	own, other := &clientConn{}, &clientConn{}
 	rows := []struct {
@@ -60,7 +62,8 @@ func TestLateness(t *testing.T) {
 	}
 }
 
-// The second without a message begins with the first waiting call, and not with a further one.
+// The second without a message begins when the first call waits for a place. A further waiting call
+// does not begin it again.
 func TestSecondWithoutAMessage(t *testing.T) {
 	p := newPlaces()
 	fill(p, nil)
@@ -75,7 +78,8 @@ func TestSecondWithoutAMessage(t *testing.T) {
 	}
 }
 
-// A call waits if all places are taken, and no longer than its context.
+// A call gets a free place at once. If all places are taken, the call waits, but no longer than its
+// context.
 func TestCallsThatWaitForAPlace(t *testing.T) {
 	p := newPlaces()
 	ctx, cancel := context.WithCancel(context.Background())
@@ -121,8 +125,8 @@ func TestOrderOfPlaces(t *testing.T) {
 	}
 }
 
-// If a call stops waiting just when it gets a place, the place goes to the next call. Nothing is
-// kept of connections without calls.
+// If a call stops waiting just when it gets a place, the place goes to the next call. The share of
+// a connection without calls is dropped.
 func TestPlacesThatAreLeft(t *testing.T) {
 	first, second := &clientConn{}, &clientConn{}
 	p := newPlaces()

@@ -13,18 +13,18 @@ import (
 	"google.golang.org/protobuf/encoding/protowire"
 )
 
-// questionTime is how long the front waits for the reply to a call that it makes itself.
+// questionTime is the longest wait of the front for the reply to a call that it makes itself.
 const questionTime = 5 * time.Second
 
-// errNoMessage is the error if the body of a reply is not a message.
+// errNoMessage is the error if the body of a reply of csid cannot be decoded as a message.
 var errNoMessage = malformed(csidName)
 
 func malformed(who string) error {
 	return status.Errorf(codes.Unavailable, "%s: malformed reply: bad message", who)
 }
 
-// topology is a topology whose free bytes the metrics show. GetCapacity returns the sum over the
-// pools that serve it.
+// topology is a topology whose free bytes the metrics show: by GetCapacity, the sum over the pools
+// that serve the topology.
 type topology struct {
 	// The text on the command line: pairs KEY=VALUE, with commas between them.
 	name string
@@ -32,7 +32,7 @@ type topology struct {
 	message []byte
 }
 
-// everywhere is the topology that all pools serve.
+// everywhere is the topology that all pools serve: its name and its message are empty.
 var everywhere topology
 
 // readTopology parses the segments of a topology, and encodes the message of GetCapacity. Field 3
@@ -63,8 +63,9 @@ func bytesField(number protowire.Number, value []byte) []byte {
 	return protowire.AppendBytes(protowire.AppendTag(nil, number, protowire.BytesType), value)
 }
 
-// question makes a call of the front itself to csid. It returns the value of field 1 of the reply,
-// and whether the reply has this field. A refusal is logged, except while the front waits for csid.
+// question makes a call of the front itself to csid. It returns the value of field 1 of the reply
+// if this field has the wire type kind, and whether the reply has such a field. A refusal is
+// logged, except while the front waits for csid.
 func (h *handler) question(ctx context.Context, path string, message []byte, kind protowire.Type) (value []byte,
 	is bool, err error) {
 	begin := time.Now()
@@ -78,8 +79,8 @@ func (h *handler) question(ctx context.Context, path string, message []byte, kin
 	return value, is, err
 }
 
-// isReady asks csid by Probe, and then the node plugin, if there is one. It returns why one of them
-// is not ready, or nil.
+// isReady asks csid by Probe. If csid is ready and there is a node plugin, it also asks the plugin.
+// It returns why one of them is not ready, or nil.
 func (h *handler) isReady(ctx context.Context) error {
 	if err := h.isCsidReady(ctx); err != nil || h.node == nil {
 		return err
@@ -124,8 +125,9 @@ func (h *handler) probeBoth(ctx context.Context, message []byte) ([]byte, error)
 	return body, nil
 }
 
-// readiness returns why a plugin is not ready, or nil, from the body of its reply to Probe. A
-// plugin whose reply does not have the field `ready` is ready (CSI, "Probe").
+// readiness returns why csid or the node plugin, which who names, is not ready, or nil. body is the
+// body of the reply to Probe. A plugin whose reply does not have the field `ready` is ready (CSI,
+// "Probe").
 func readiness(who string, body []byte) error {
 	wrapped, is, err := lastField(body, 1, protowire.BytesType)
 	if err != nil {
@@ -137,7 +139,8 @@ func readiness(who string, body []byte) error {
 	return readyValue(who, wrapped)
 }
 
-// readyValue returns why a plugin is not ready, or nil, from the field `ready` of its reply.
+// readyValue returns why csid or the node plugin, which who names, is not ready, or nil. wrapped is
+// the field `ready` of the reply to Probe.
 func readyValue(who string, wrapped []byte) error {
 	ready, _ := protowire.ConsumeBytes(wrapped)
 	value, _, err := lastField(ready, 1, protowire.VarintType)
@@ -151,7 +154,7 @@ func readyValue(who string, wrapped []byte) error {
 }
 
 // capacity returns the free bytes of a topology, from GetCapacity. The result is 0 if the reply has
-// no number.
+// no capacity.
 func (h *handler) capacity(ctx context.Context, asked topology) (int64, error) {
 	value, _, err := h.question(ctx, getCapacity, asked.message, protowire.VarintType)
 	if err != nil {
@@ -177,7 +180,7 @@ func lastField(message []byte, number protowire.Number, kind protowire.Type) (va
 }
 
 // eachField calls take for each field of a message, with the field's value without its tag. It
-// stops at the first error of take.
+// stops at the first error of take, and at a malformed field with errNoMessage.
 func eachField(message []byte, take func(number protowire.Number, kind protowire.Type, value []byte) error) error {
 	for len(message) > 0 {
 		number, kind, size := protowire.ConsumeTag(message)

@@ -17,8 +17,8 @@ func soon(t *testing.T) context.Context {
 	return ctx
 }
 
-// answering returns a function that reads calls without messages, and answers each with the same
-// reply.
+// answering returns a function that serves a connection: it reads calls without messages, and
+// answers each with the same reply.
 func answering(reply []byte) func(net.Conn) {
 	return func(conn net.Conn) {
 		for head := make([]byte, 2); ; {
@@ -37,7 +37,8 @@ func replying(t *testing.T, frame string) *handler {
 	return inFront(path)
 }
 
-// The reasons why a node plugin is not ready name the node plugin.
+// Readiness is decoded from the body of the reply to Probe. Each reason why a node plugin is not
+// ready names the node plugin.
 func TestReadinessOfANodePlugin(t *testing.T) {
 	rows := []struct{ name, body, want string }{
 		{"ready", "0a020801", ""},

@@ -19,18 +19,20 @@ import (
 // idPrefix is the first part of a volume's id, before its number in decimal.
 const idPrefix = "vol-"
 
-// lookUpTime is how long a call waits for the page. If the page does not come in time, the call
-// counts as a change.
+// lookUpTime is the longest wait of a delete or an unpublish for the page of its look-up. If the
+// page does not come in time, the call counts as a change.
 const lookUpTime = time.Second
 
-// removal is what the front knows about a delete or an unpublish before the call is made.
+// removal is the result of the look-up before a delete or an unpublish. It is empty for any other
+// call.
 type removal struct {
-	// Whether the call has nothing to remove.
+	// True if the call will find nothing to remove. False if it may remove something, or if the
+	// look-up failed.
 	isOfNothing bool
 }
 
-// made returns the change that a call made, or that was refused. It returns nil if the call was
-// answered OK and removed nothing.
+// made returns the change for the log. It returns nil instead if the call had nothing to remove and
+// was answered OK.
 func (r removal) made(asked *change, code codes.Code) *change {
 	if r.isOfNothing && code == codes.OK {
 		return nil
@@ -38,7 +40,8 @@ func (r removal) made(asked *change, code codes.Code) *change {
 	return asked
 }
 
-// removalOf looks up the volume of a delete or an unpublish, if changes are logged.
+// removalOf looks up the volume of a delete or an unpublish. For any other call, or if changes are
+// not logged, it asks nothing.
 func (h *handler) removalOf(ctx context.Context, path string, message []byte) removal {
 	if !h.logChanges || path != deleteVolume && path != unpublishVolume {
 		return removal{}
@@ -52,7 +55,7 @@ func (h *handler) removalOf(ctx context.Context, path string, message []byte) re
 	defer cancel()
 	body, err := h.ask(ctx, listVolumes, pageOf(number))
 	if err != nil {
-		// csid refuses the token if no volume has been given a greater number yet.
+		// csid refuses the token with ABORTED if no volume has ever had a number above the token.
 		return removal{isOfNothing: status.Code(err) == codes.Aborted && number > 1}
 	}
 	nodes, exists, err := nodesOf(body, id)
@@ -74,7 +77,7 @@ func numberOf(id string) (number uint64, isID bool) {
 }
 
 // pageOf returns the message of ListVolumes for a page with one entry, which begins with the volume
-// of this number. The token of the page is the number minus 1.
+// of this number. The token of the page is the number minus 1; the first page has no token.
 func pageOf(number uint64) []byte {
 	message := protowire.AppendVarint(protowire.AppendTag(nil, 1, protowire.VarintType), 1)
 	if number > 1 {

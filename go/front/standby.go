@@ -25,8 +25,9 @@ const (
 )
 
 // standBy makes the socket when csid is ready, and serves until csid has given no reply for the
-// time of --standby. An orchestrator's sidecars wait for a missing socket, but end if their first
-// Probe is answered UNAVAILABLE. With a node plugin the socket exists from the start.
+// time of --standby. It returns the exit status. An orchestrator's sidecars wait for a missing
+// socket, but end if their first Probe is answered UNAVAILABLE. With a node plugin it calls
+// serveWhileItWaits instead.
 func (f *front) standBy() int {
 	if err := startMonitor(f.handler, f.asked, f.failed); err != nil {
 		return f.fails(err, noSocket)
@@ -70,8 +71,8 @@ func (f *front) serveWhileItWaits() int {
 	return f.serve(listener)
 }
 
-// follow waits until csid is ready, and then until it has given no reply for the time limit. Then
-// it begins again. It does not return.
+// follow waits until csid is ready, and then until csid has given no reply for the time limit,
+// again and again. It never returns.
 func (h *handler) follow(limit time.Duration) {
 	for {
 		h.await(context.Background())
@@ -97,8 +98,8 @@ func (l *life) silence() time.Duration {
 	return time.Since(l.shown)
 }
 
-// await asks csid by Probe until it is ready, or the context ends. It logs why it waits. If the
-// reason stays the same, it is logged once.
+// await asks csid by Probe until csid is ready or the context ends. It logs why it waits, again
+// only if the reason has changed.
 func (h *handler) await(ctx context.Context) {
 	h.isWaiting.Store(true)
 	defer h.isWaiting.Store(false)
@@ -137,11 +138,12 @@ func (h *handler) watch(limit time.Duration) error {
 		next := time.After(least(askingPause, limit/3))
 		left := limit - h.backend.life.silence()
 		if left < limit/10 {
-			// If the front itself hung, it asks once more before it decides that csid hangs.
+			// The silence may be long because the front itself hung. So csid gets at least this
+			// time for one more Probe.
 			left = limit / 10
 		}
 		err := soonReady(context.Background(), h.isCsidReady, left)
-		// A Probe that ran out of time has a weaker reason than the Probe before it.
+		// An earlier reason says more than the timeout of this Probe, so it is kept.
 		if err != nil && (why == "" || status.Code(err) != codes.DeadlineExceeded) {
 			why = reason(err)
 		}
@@ -159,9 +161,9 @@ func soonReady(ctx context.Context, check func(context.Context) error, length ti
 	return check(ctx)
 }
 
-// livez answers 503 if csid hangs: a Probe timed out, and no reply came for questionTime. A csid
-// that closes each connection, since another csid has the lock, does not hang. A csid that answers
-// other calls before the Probe does not hang either.
+// livez answers 503 if csid hangs: a Probe timed out, and no reply came for questionTime. Otherwise
+// it answers "ok". A csid that closes each connection, since another csid has the lock, does not
+// hang. A csid that answers other calls before the Probe does not hang either.
 func (h *handler) livez(answer http.ResponseWriter, request *http.Request) {
 	err := h.checkInTurn(request.Context(), h.isCsidReady)
 	if status.Code(err) == codes.DeadlineExceeded && h.backend.life.silence() >= questionTime {
@@ -171,7 +173,7 @@ func (h *handler) livez(answer http.ResponseWriter, request *http.Request) {
 	fmt.Fprintln(answer, "ok")
 }
 
-// reason returns why csid answered no Probe, without the prefix that names csid.
+// reason returns the text of an error of Probe, without the prefix "csid: ".
 func reason(err error) string { return strings.TrimPrefix(status.Convert(err).Message(), "csid: ") }
 
 func least(one, other time.Duration) time.Duration {

@@ -14,8 +14,8 @@ import (
 	"time"
 )
 
-// While replies come, a Probe may wait longer than the limit. When no reply comes, the watch ends.
-// If the machine is too slow for a limit, the test doubles the limit.
+// While replies come, a Probe may wait longer than the limit. When no reply has come for the limit,
+// watch returns. If the machine is too slow for a limit, the test doubles the limit.
 func TestWatchOverABusyCsid(t *testing.T) {
 	for limit := 600 * time.Millisecond; ; limit *= 2 {
 		err := watchABusyCsid(t, limit)
@@ -65,7 +65,7 @@ func watchABusyCsid(t *testing.T, limit time.Duration) error {
 }
 
 // longWait lets a number of callers make calls until the context ends. The channel is closed when
-// one of them has waited longer than length.
+// one call has taken longer than length.
 func longWait(ctx context.Context, b *backend, callers int, length time.Duration) <-chan struct{} {
 	waited := make(chan struct{})
 	var once sync.Once
@@ -83,7 +83,8 @@ func longWait(ctx context.Context, b *backend, callers int, length time.Duration
 	return waited
 }
 
-// Each reply is a sign of life, even a refusal. A connection that is closed without a reply is not.
+// Each reply is a sign of life, even a refusal. A connection that csid closes without a reply is no
+// sign of life.
 func TestWatchOverClosedConnections(t *testing.T) {
 	const limit = 300 * time.Millisecond
 	refusals := int32(0)
@@ -125,7 +126,8 @@ func TestWatchAfterAStandstill(t *testing.T) {
 	}
 }
 
-// A Probe may take the time that is left of the limit, and no more.
+// If csid is silent, watch returns when the rest of the limit is over, and does not wait longer for
+// its Probe.
 func TestTimeOfAProbe(t *testing.T) {
 	const limit, left = 5 * time.Second, 500 * time.Millisecond
 	path, _ := csid(t, func(conn net.Conn) { io.Copy(io.Discard, conn) })

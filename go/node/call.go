@@ -40,8 +40,8 @@ var rpcMethods = map[string]rpcMethod{
 	"NodeGetVolumeStats":        newRPCMethod[statsRequest, stats](nodeName),
 }
 
-// call makes one call. It reads the request as JSON with CSI's names of fields, and prints the
-// response in the same form.
+// call makes one call. It reads the request as JSON with CSI's names of fields, or sends an empty
+// request without it. It prints the response in the same form, on one line.
 func call(args []string, out io.Writer) error {
 	flags := flag.NewFlagSet("call", flag.ContinueOnError)
 	socket := flags.String("socket", "", "the `PATH` of the socket of the node plugin, or of the front")

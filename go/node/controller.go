@@ -16,11 +16,12 @@ import (
 const (
 	// The time limit for an answer of the controller.
 	controllerTime = 10 * time.Second
-	// How long a call waits for a missing controller, which may be starting.
+	// The time for which a call waits for a missing controller, which may be starting.
 	startTime = 2 * time.Second
 )
 
-// redial limits the pause between two attempts to connect: it is at most one second.
+// redial sets the pause between two attempts to connect: about 0.1 seconds at first, and about one
+// second at most.
 var redial = grpc.ConnectParams{
 	Backoff: backoff.Config{
 		BaseDelay: 100 * time.Millisecond, Multiplier: 1.6, Jitter: 0.2, MaxDelay: time.Second,
@@ -46,9 +47,9 @@ func dial(socket string) (controller, error) {
 	return controller{conn}, err
 }
 
-// size returns the bytes of a volume. It asks for a page of ListVolumes with one entry, after the
-// volume's number minus 1. If the volume exists, this entry is the volume (docs/MACHINE.md, "A walk
-// over pages").
+// size returns the bytes of a volume, or errNoVolume. It asks for a page of ListVolumes with one
+// entry, after the volume's number minus 1. If the volume exists, this entry is the volume
+// (docs/MACHINE.md, "A walk over pages").
 func (c controller) size(ctx context.Context, id string) (int64, error) {
 	parts := volumeID.FindStringSubmatch(id)
 	if parts == nil {
@@ -75,7 +76,7 @@ func (c controller) size(ctx context.Context, id string) (int64, error) {
 	return page.Entries[0].Volume.CapacityBytes, nil
 }
 
-// volumes returns the ids of all volumes.
+// volumes returns the ids of all volumes that the controller lists.
 func (c controller) volumes(ctx context.Context) (map[string]bool, error) {
 	ids := map[string]bool{}
 	for token := ""; ; {

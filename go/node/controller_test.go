@@ -16,8 +16,8 @@ import (
 	"google.golang.org/grpc/status"
 )
 
-// pageServer plays a controller. It lists the volumes with these numbers, at most page of them on a
-// page. last is the greatest number that a volume has had.
+// pageServer plays a controller. It lists the volumes with these numbers. page is the greatest
+// number of volumes on a page, and last is the greatest number that any volume has had.
 type pageServer struct {
 	numbers []int
 	last    int

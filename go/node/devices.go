@@ -54,8 +54,8 @@ func (devices) create(data string, bytes int64) error {
 	return os.Rename(unfinished, data)
 }
 
-// stage attaches the volume, and mounts it unless it is used as a block device. It first makes a
-// file system on an empty volume.
+// stage attaches the file to a loop device, and mounts the device unless the volume is used as a
+// block device. Before it mounts a volume without contents, it makes a file system there.
 func (devices) stage(data, staging string, use *capability, readOnly bool) error {
 	device, err := attach(data, readOnly)
 	if err != nil || use.Block != nil {
@@ -124,7 +124,8 @@ func publishMount(device, staging, target string, readOnly bool) error {
 	return command("mount", "-o", flags, staging, target)
 }
 
-// checkSame refuses a second publication at the same path with another read-only flag.
+// checkSame refuses a second publication at the same path if the mount there is read-only and the
+// new one would not be, or the other way round.
 func checkSame(staging, target string, readOnly bool) error {
 	isStagingReadOnly, err := isReadOnly(staging)
 	if err != nil {
@@ -180,7 +181,8 @@ func (devices) unpublish(data, target string) error {
 	return nil
 }
 
-// usage returns the usage of a mounted file system, or only the size of a block device.
+// usage returns the usage of a mounted file system, or only the size of a block device. It returns
+// nil if the volume is not at the path.
 func (devices) usage(data, path string) (*usage, error) {
 	at, err := findPresence(data, path)
 	if err != nil || at == nowhere {
@@ -196,7 +198,8 @@ func (devices) usage(data, path string) (*usage, error) {
 	return &usage{Total: file.Size(), Unit: unitBytes}, nil
 }
 
-// presence is the state of a volume at a path.
+// presence is the state of a volume at a path: not there, there as a mounted file system, or there
+// as a block device.
 type presence int
 
 const (
@@ -219,7 +222,8 @@ func findPresence(data, path string) (presence, error) {
 	return nowhere, nil
 }
 
-// attach returns the loop device of a file. If there is none, it makes one.
+// attach returns the loop device of a file. If there is none, it makes one, read-only if readOnly
+// is true.
 func attach(data string, readOnly bool) (string, error) {
 	device, err := attached(data)
 	if device != "" || err != nil {
@@ -239,8 +243,8 @@ func attached(data string) (string, error) {
 
 // detach detaches a file from its loop device. Another program may have the device open, such as a
 // blkid that probes all devices. Then the kernel detaches the file only when that program closes
-// the device, so detach waits. If the file was detached earlier in this way, losetup reports that
-// there is no file.
+// the device, so detach waits. An error of losetup counts only if the file is still attached: after
+// such a late detach, losetup reports that there is no file.
 func detach(data, device string) error {
 	err := command("losetup", "--detach", device)
 	for end := time.Now().Add(detachTime); ; time.Sleep(detachTime / 100) {
@@ -257,7 +261,8 @@ func detach(data, device string) error {
 	}
 }
 
-// format makes a file system on a device without recognizable contents.
+// format makes a file system of ext4 on a device without contents that blkid recognizes. Any other
+// device stays unchanged.
 func format(device string) error {
 	_, err := output("blkid", "--probe", device)
 	var exitErr *exec.ExitError
@@ -279,7 +284,8 @@ func isDevice(device, path string) (bool, error) {
 	return pathStat.Mode&syscall.S_IFMT == syscall.S_IFBLK && pathStat.Rdev == deviceStat.Rdev && err == nil, err
 }
 
-// statBoth returns the status of a device and of a path. It is zero for a path that does not exist.
+// statBoth returns the status of a device and of a path. The status of a path that does not exist
+// is zero.
 func statBoth(device, path string) (deviceStat, pathStat syscall.Stat_t, err error) {
 	if err := syscall.Stat(device, &deviceStat); err != nil {
 		return deviceStat, pathStat, fmt.Errorf("%s: %w", device, err)
@@ -303,7 +309,8 @@ func command(name string, args ...string) error {
 	return err
 }
 
-// output runs a command and returns its standard output. The error contains its standard error.
+// output runs a command and returns its standard output, without spaces and newlines at its ends.
+// If the command fails, the error contains its standard error.
 func output(name string, args ...string) (string, error) {
 	written, err := exec.Command(name, args...).Output()
 	var exitErr *exec.ExitError

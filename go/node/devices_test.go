@@ -49,7 +49,8 @@ func needsDevices(t *testing.T) {
 	}
 }
 
-// release unmounts and detaches what a test left in a folder, and reports it.
+// release unmounts and detaches the mounts and loop devices that a test has left in a folder. Each
+// of them fails the test.
 func release(t *testing.T, folder string) {
 	t.Helper()
 	for _, each := range []struct{ list, words, undo string }{
@@ -146,7 +147,8 @@ func TestReadOnlyMount(t *testing.T) {
 	s.isEmpty(t)
 }
 
-// A volume that the controller attached read-only is not writable, however it is published.
+// A volume that the controller attached read-only is not writable, also if it is published without
+// the read-only flag.
 func TestReadOnlyAttachment(t *testing.T) {
 	t.Parallel()
 	s := newDeviceSession(t)
@@ -187,7 +189,7 @@ func TestBlockVolume(t *testing.T) {
 	s.run(t, unpublishRow, unstageRow)
 }
 
-// writeDevice writes to the start of a device of 4 MiB.
+// writeDevice checks that a device has 4 MiB, and writes "kept" to its start.
 func writeDevice(t *testing.T, path string) {
 	t.Helper()
 	file, err := os.OpenFile(path, os.O_RDWR|os.O_SYNC, 0)

@@ -87,7 +87,8 @@ func unlink(data, path string) error {
 	return os.Remove(path)
 }
 
-// isLinkTo reports whether path is a link to a volume's data.
+// isLinkTo reports whether path is a symbolic link to a volume's data. It returns false if nothing
+// is at the path.
 func isLinkTo(path, data string) (bool, error) {
 	file, err := os.Lstat(path)
 	if errors.Is(err, os.ErrNotExist) || errors.Is(err, syscall.ENOTDIR) {

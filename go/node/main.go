@@ -61,7 +61,8 @@ func run(args []string, out, log io.Writer) int {
 	return exitStatus(commands[command](args[1:], out), log)
 }
 
-// exitStatus returns the exit status of a command and logs its error.
+// exitStatus returns the exit status of a command that ended with err, and logs err. nil and
+// flag.ErrHelp are successes without a line.
 func exitStatus(err error, log io.Writer) int {
 	if err == nil || errors.Is(err, flag.ErrHelp) {
 		return exitOK
@@ -77,7 +78,8 @@ func exitStatus(err error, log io.Writer) int {
 	return exitFailure
 }
 
-// serve answers calls until SIGTERM or SIGINT. A second signal ends it at once.
+// serve answers calls until SIGTERM or SIGINT, and then waits for the running calls. A second
+// signal ends the program at once.
 func serve(args []string, out io.Writer) error {
 	opts, err := readServeOptions(args, out)
 	if err != nil {
@@ -108,7 +110,8 @@ func serve(args []string, out io.Writer) error {
 	return nil
 }
 
-// listen makes a socket. It replaces the socket of an earlier process, on which nobody answers.
+// listen makes a socket. It replaces the socket of an earlier process if no process answers on it.
+// Any other file with this path is an error.
 func listen(path string) (net.Listener, error) {
 	if file, err := os.Lstat(path); err == nil && file.Mode()&os.ModeSocket != 0 {
 		conn, err := net.Dial("unix", path)

@@ -11,30 +11,30 @@ import (
 // empty.
 type message struct{}
 
-// Reset implements proto.Message.
+// Reset does nothing.
 func (message) Reset() {}
 
-// String implements proto.Message.
+// String returns an empty text.
 func (message) String() string { return "" }
 
-// ProtoMessage implements proto.Message.
+// ProtoMessage marks the type as a message, and does nothing.
 func (message) ProtoMessage() {}
 
 // codec encodes and decodes these messages. It replaces gRPC's codec, which accepts only generated
 // ones.
 type codec struct{}
 
-// Marshal implements encoding.Codec.
+// Marshal encodes a message, given as a pointer to one of the structs below.
 func (codec) Marshal(v interface{}) ([]byte, error) {
 	return proto.Marshal(protoimpl.X.ProtoMessageV2Of(v))
 }
 
-// Unmarshal implements encoding.Codec.
+// Unmarshal decodes data into v, a pointer to one of the structs below.
 func (codec) Unmarshal(data []byte, v interface{}) error {
 	return proto.Unmarshal(data, protoimpl.X.ProtoMessageV2Of(v))
 }
 
-// Name implements encoding.Codec, with the name of the codec that this one replaces.
+// Name returns the name of the codec that this one replaces.
 func (codec) Name() string { return "proto" }
 
 func init() { encoding.RegisterCodec(codec{}) }
@@ -91,7 +91,7 @@ type nodeCapability struct {
 	RPC *capabilityType `protobuf:"bytes,1,opt,name=rpc,proto3" json:"rpc,omitempty"`
 }
 
-// capability is a use of a volume. Exactly one of Block and Mount is set.
+// capability is a use of a volume. In a valid one, exactly one of Block and Mount is set.
 type capability struct {
 	Block      *blockAccess `protobuf:"bytes,1,opt,name=block,proto3" json:"block,omitempty"`
 	Mount      *mountAccess `protobuf:"bytes,2,opt,name=mount,proto3" json:"mount,omitempty"`

@@ -8,7 +8,7 @@ import (
 	"strings"
 )
 
-// usageError is an error in the command line.
+// usageError is an error in the command line: the program ends with exitUsage.
 type usageError struct{ error }
 
 func refuse(format string, args ...interface{}) error {
@@ -16,8 +16,8 @@ func refuse(format string, args ...interface{}) error {
 }
 
 // serveOptions are the options of `serve`: the sockets of the node plugin and of the front, the
-// name of the plugin, what is reported about this node, the folder of each pool, and how volumes
-// are stored.
+// name of the plugin, the reply to NodeGetInfo, the folder of each pool, and the storage of
+// volumes.
 type serveOptions struct {
 	listen     string
 	controller string
@@ -56,7 +56,8 @@ func readServeOptions(args []string, out io.Writer) (serveOptions, error) {
 		option{"--name", opts.name}, option{"--pool", opts.pools.String()})
 }
 
-// addTopology parses the segments of the node, as KEY=VALUE,...
+// addTopology sets the topology of the node to segments that are given as KEY=VALUE,... Each key
+// may occur once.
 func (opts *serveOptions) addTopology(pairs string) error {
 	segments := map[string]string{}
 	for _, pair := range strings.Split(pairs, ",") {
@@ -73,7 +74,8 @@ func (opts *serveOptions) addTopology(pairs string) error {
 	return nil
 }
 
-// parseFlags parses flags and at most maxArgs further arguments.
+// parseFlags parses flags, and refuses more than maxArgs further arguments. For --help it prints
+// the usage to out, and returns flag.ErrHelp.
 func parseFlags(flags *flag.FlagSet, args []string, maxArgs int, out io.Writer) error {
 	flags.SetOutput(io.Discard)
 	flags.Usage = func() {}

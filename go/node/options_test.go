@@ -36,7 +36,8 @@ func TestServeOptions(t *testing.T) {
 	}
 }
 
-// The standard error and the exit status if no call is made.
+// A refused command line, and a sweep of a missing folder, have this standard error and this exit
+// status.
 func TestUsageErrors(t *testing.T) {
 	const serve = "serve --listen l --controller c --node n1 --pool p1=/a "
 	cases := []struct {

@@ -13,14 +13,15 @@ import (
 	"google.golang.org/grpc/status"
 )
 
-// The services of CSI.
+// The names of CSI's services in the paths of calls.
 const (
 	identityName   = "csi.v1.Identity"
 	controllerName = "csi.v1.Controller"
 	nodeName       = "csi.v1.Node"
 )
 
-// Values of CSI's enumerations.
+// Values of CSI's enumerations: a capability of the plugin, two capabilities of a node, and the
+// unit of a volume's usage.
 const (
 	accessibilityConstraints = 2
 	stageUnstageVolume       = 1
@@ -33,7 +34,8 @@ const (
 const stagingMode = 0o750
 
 // storage keeps the data of volumes and makes them available at paths. A repeated call changes
-// nothing.
+// nothing, except for create, which is called only if there are no data. data is the path of a
+// volume's data.
 type storage interface {
 	// suffix is the part of the data's file name after the volume's id.
 	suffix() string
@@ -44,7 +46,8 @@ type storage interface {
 	unstage(data, staging string) error
 	publish(data, staging, target string, use *capability, readOnly bool) error
 	unpublish(data, target string) error
-	// usage returns the usage of a volume that is at path, or nil if it is not there.
+	// usage returns the total bytes of a volume at this path, and for a file system also the used
+	// and available bytes. It returns nil if the volume is not there.
 	usage(data, path string) (*usage, error)
 }
 
@@ -55,7 +58,7 @@ type plugin struct {
 	pools      pools
 	storage    storage
 	controller controller
-	// Held during a call: calls are served one at a time.
+	// Held during each call that is wrapped in alone.
 	mutex sync.Mutex
 }
 
@@ -171,7 +174,8 @@ func (p *plugin) stage(ctx context.Context, request *stageRequest) (*empty, erro
 	return new(empty), p.storage.stage(data, request.StagingPath, request.Capability, readOnly)
 }
 
-// dataOf returns the path of a volume's data. The context of the volume names the pool.
+// dataOf returns the path of a volume's data, which need not exist yet. The context of the volume
+// names the pool. A pool without a folder is refused.
 func (p *plugin) dataOf(request *stageRequest) (string, error) {
 	pool := request.VolumeContext["pool"]
 	if pool == "" {
@@ -279,7 +283,8 @@ func fileSystemUsage(path string) (*usage, error) {
 
 var errNotStaged = status.Error(codes.FailedPrecondition, "the volume is not staged")
 
-// checkPlace checks the id and the path of a call. field is the path's name in the request.
+// checkPlace checks the volume's id and the path of a call. field is the name of the path's field
+// in the request.
 func checkPlace(id, field, path string) error {
 	if err := checkVolume(id); err != nil {
 		return err

@@ -9,7 +9,7 @@ import (
 	"strings"
 )
 
-// pools maps the name of each pool, as the controller has it, to its folder.
+// pools maps the name of each pool, as the controller has it, to the absolute path of its folder.
 type pools map[string]string
 
 // add parses a NAME=FOLDER of the command line. It refuses a second folder for a name.
@@ -29,7 +29,8 @@ func (p pools) add(pair string) error {
 	return nil
 }
 
-// String returns the names in order, as flag.Value wants.
+// String returns the names of the pools in ascending order, with a space between two names. It is
+// empty without pools.
 func (p pools) String() string {
 	var names []string
 	for name := range p {

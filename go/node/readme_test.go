@@ -9,10 +9,10 @@ import (
 	"testing"
 )
 
-// step is a command of the page and its output.
+// step is a command of README.md and the output that the page shows.
 type step struct{ command, shown string }
 
-// sessionOf returns the commands of a page in order.
+// sessionOf returns the commands of a page, in the order of the page.
 func sessionOf(t *testing.T, page string) (steps []step) {
 	t.Helper()
 	text, err := os.ReadFile(page)
@@ -51,7 +51,8 @@ func TestReadme(t *testing.T) {
 	runSession(t, run, sessionOf(t, readme))
 }
 
-// Without devices the commands have the same output, except the commands about the device.
+// With --without-devices the commands have the same output. The commands about the device are left
+// out.
 func TestReadmeWithoutDevices(t *testing.T) {
 	t.Parallel()
 	var steps []step
@@ -68,7 +69,8 @@ func TestReadmeWithoutDevices(t *testing.T) {
 	runSession(t, folder(t), steps)
 }
 
-// runSession runs commands, with a folder for temporary files, and compares their output.
+// runSession runs commands in one bash, with a folder for temporary files, and compares their
+// output.
 func runSession(t *testing.T, temporary string, steps []step) {
 	t.Helper()
 	const mark = "-- next --\n"
@@ -101,7 +103,8 @@ func runSession(t *testing.T, temporary string, steps []step) {
 	}
 }
 
-// programFolders returns the folders of the programs that the environment names.
+// programFolders returns the folders of csid, the front and the node plugin, which the environment
+// names, as a part of PATH.
 func programFolders() string {
 	var folders []string
 	for _, variable := range []string{"CSID", "FRONT", "NODE_PLUGIN"} {
@@ -110,7 +113,7 @@ func programFolders() string {
 	return strings.Join(folders, ":")
 }
 
-// The page has the usage of the program.
+// README.md has the usage of the program.
 func TestReadmeUsage(t *testing.T) {
 	t.Parallel()
 	page, err := os.ReadFile(readme)

@@ -23,8 +23,8 @@ type process struct {
 	ended chan struct{}
 }
 
-// start runs a program and waits until it answers on a socket. An environment variable may name the
-// program.
+// start runs a program and waits until it answers on a socket. The environment variable has the
+// path of the program; if it is not set, the path is `otherwise`.
 func start(t *testing.T, variable, otherwise, socket string, words ...string) *process {
 	t.Helper()
 	program := os.Getenv(variable)
@@ -119,7 +119,7 @@ func (s *session) run(t *testing.T, rows ...row) {
 	}
 }
 
-// Parts of messages.
+// Names of sockets, parts of messages, and expected outputs.
 const (
 	controllerSocket = "csi.sock"
 	nodeSocket       = "node.sock"
@@ -408,8 +408,8 @@ func TestOtherFilesAtPaths(t *testing.T) {
 	s.finds(t, "targets/a")
 }
 
-// Without the controller, a volume with data can be staged. For another volume the call can be
-// repeated.
+// Without the controller, a volume with data can be staged. Staging another volume fails with
+// UNAVAILABLE, so that the orchestrator repeats the call.
 func TestControllerThatIsAway(t *testing.T) {
 	t.Parallel()
 	s := newSession(t, "--without-devices")

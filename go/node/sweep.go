@@ -13,7 +13,7 @@ import (
 var dataName = regexp.MustCompile(`^(vol-[1-9][0-9]*)\.(img|img\.new|d)$`)
 
 // sweep prints the paths of the data of volumes that the controller does not list. With --remove it
-// also removes these data.
+// also removes these data, each before it prints the path.
 func sweep(args []string, out io.Writer) error {
 	found := pools{}
 	flags := flag.NewFlagSet("sweep", flag.ContinueOnError)
@@ -46,8 +46,10 @@ func sweep(args []string, out io.Writer) error {
 	return nil
 }
 
-// unlistedData returns the paths of data of unlisted volumes. It reads the folders before it lists
-// the volumes. Otherwise it could find data of a volume that was created after the list was made.
+// unlistedData returns the paths of data of volumes that the controller does not list, also of
+// unfinished files. Other files in the folders of pools are left out. It reads the folders before
+// it lists the volumes. Otherwise it could find data of a volume that was created after the list
+// was made.
 func unlistedData(front controller, in pools) ([]string, error) {
 	var all []string
 	for _, folder := range in {

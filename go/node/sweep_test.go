@@ -9,7 +9,8 @@ import (
 	"testing"
 )
 
-// The output and the remaining data of two folders, with and without --remove.
+// sweep prints the data of unlisted volumes in two folders, and removes them only with --remove.
+// Other files stay.
 func TestSweep(t *testing.T) {
 	socket := startController(t, pageServer{[]int{1, 3}, 9, 1}.list)
 	first, second := folder(t), folder(t)
@@ -71,7 +72,7 @@ func names(t *testing.T, folders ...string) (all []string) {
 	return all
 }
 
-// Without the controller nothing is removed.
+// If the controller is not reachable, nothing is removed.
 func TestSweepWithoutController(t *testing.T) {
 	pool := folder(t)
 	if err := os.WriteFile(pool+"/vol-1.img", nil, 0o600); err != nil {

@@ -19,7 +19,7 @@ const (
 	goodAttachment = `{"cap":"","readonly":0}`
 )
 
-// brokenRows are rows that no csid-etcd writes, and the refusal that names each.
+// brokenRows are rows that csid-etcd never writes, each with the refusal that names it.
 var brokenRows = []struct{ key, value, want string }{
 	{"meta", ``, "meta" + metaForm},
 	{"meta", `{"format_no":2,"next_number":"1"}`, "meta" + metaForm},
@@ -69,14 +69,14 @@ var brokenRows = []struct{ key, value, want string }{
 	{"\xff", good, `\xff: no row has such a key`},
 }
 
-// putRow puts the value of a row of the plugin.
+// putRow puts a value at a key of the plugin, which is given without the plugin's name.
 func putRow(t *testing.T, client *clientv3.Client, key, value string) {
 	t.Helper()
 	put(t, client, name+"/"+key, value)
 }
 
-// Each row that no csid-etcd writes is named, anywhere among the rows. Once it is fixed, rows are
-// read as before.
+// A broken row, anywhere among the rows, makes Read fail with a refusal that names the row. Once
+// the row is fixed, rows are read as before.
 func TestBrokenRows(t *testing.T) {
 	t.Parallel()
 	cluster, _, l := startLeading(t)

@@ -30,7 +30,7 @@ const (
 	leadPath   = "/fomaheti.log.v1.Log/Lead"
 )
 
-// program is a running csid-etcd.
+// program is a csid-etcd that a test has started.
 type program struct{ *processes.Process }
 
 // start starts a csid-etcd with further arguments, and waits until it answers.
@@ -46,21 +46,21 @@ func startAt(t *testing.T, socket, endpoints string, args ...string) program {
 	return program{processes.Start(t, socket, exec.Command(processes.EtcdProgram(t), args...)).Answers(t)}
 }
 
-// waitLeading waits until the program leads.
+// waitLeading waits until the program has logged that it leads, now or earlier.
 func (p program) waitLeading(t *testing.T) program {
 	t.Helper()
 	p.waitLog(t, "csid-etcd: leads, from revision")
 	return p
 }
 
-// waitLog waits for a text on standard error.
+// waitLog waits until the program has written a text to standard error.
 func (p program) waitLog(t *testing.T, text string) {
 	t.Helper()
 	processes.Eventually(t, fmt.Sprintf("%q in the log, which has %q", text, p.Log),
 		func() bool { return strings.Contains(p.Log.String(), text) })
 }
 
-// storeConn is a connection to csid-etcd.
+// storeConn is a connection to csid-etcd. Its replies are read from in.
 type storeConn struct {
 	net.Conn
 	in *frames.Replies
@@ -122,7 +122,8 @@ func (r rows) String() string {
 	return strings.Join(all, "\n")
 }
 
-// readAll reads all rows and counts the pages.
+// readAll reads all rows and counts the pages. It fails if a call gets no OK, or if the rows are
+// not in ascending order.
 func (l *storeConn) readAll() (read rows, pages int, err error) {
 	read = rows{}
 	var token []byte
@@ -243,7 +244,7 @@ func (l *storeConn) mustCommit(t *testing.T, message []byte) {
 	l.wantReply(t, commitPath, hex.EncodeToString(message), codes.OK, "")
 }
 
-// wantRefused makes a change that must be refused.
+// wantRefused makes a change that must be refused with this code and this text.
 func (l *storeConn) wantRefused(t *testing.T, message []byte, code codes.Code, want string) {
 	t.Helper()
 	l.wantReply(t, commitPath, hex.EncodeToString(message), code, want)

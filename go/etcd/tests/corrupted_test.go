@@ -16,7 +16,8 @@ import (
 	"./clusters"
 )
 
-// corruptingProxy is a proxy of a member of etcd. On request it removes parts of answers.
+// corruptingProxy is a proxy of a member of etcd. While isCorrupting is true, it removes parts of
+// answers.
 type corruptingProxy struct {
 	pb.KVServer
 	pb.LeaseServer
@@ -52,7 +53,7 @@ func newCorruptingProxy(t *testing.T, member string) (*corruptingProxy, string) 
 	return l, listener.Addr().String()
 }
 
-// set starts or stops the corruption, and returns the number of corrupted answers.
+// set starts or stops the corruption, and returns the number of answers that were corrupted so far.
 func (l *corruptingProxy) set(isCorrupting bool) int {
 	l.mutex.Lock()
 	defer l.mutex.Unlock()
@@ -70,7 +71,8 @@ func (l *corruptingProxy) corrupt(answer interface{}) {
 	}
 }
 
-// removePart removes a field of the answer or of one of its parts.
+// removePart sets a random field of the answer, or of one of its parts, to its zero value. It may
+// find no such field, and then changes nothing.
 func (l *corruptingProxy) removePart(part reflect.Value) {
 	for part.Kind() == reflect.Ptr || part.Kind() == reflect.Interface {
 		if part.IsNil() {

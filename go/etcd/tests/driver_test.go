@@ -21,16 +21,16 @@ type driver struct {
 	// The promised rows, and these rows with the change of unknown outcome.
 	known, pending rows
 	next           uint64
-	// The number of refusals by text, and of connections that ended without a reply.
+	// The number of refusals by text, of changes with OK, and of changes without a reply.
 	refused map[string]int
 	ok      int
 	unknown int
 	// The number of changes without a reply that were made.
 	made int
-	// The longest time between two OK, and the time of the last OK.
+	// The longest time between two replies with OK, and the time of the last one.
 	gap  time.Duration
 	last time.Time
-	// The socket of the last OK.
+	// The socket over which the last OK came.
 	from string
 }
 
@@ -67,7 +67,9 @@ func (d *driver) begin() (end func()) {
 	}
 }
 
-// session does what csid does over one connection.
+// session does what csid does over one connection: it reads all rows, makes the first row if there
+// are none, and makes changes until one gets no OK. It returns an error only for rows or replies
+// that must not occur.
 func (d *driver) session(ctx context.Context, socket string) error {
 	l, err := dial(socket)
 	if err != nil {
@@ -109,7 +111,8 @@ func (d *driver) recordOK(socket string) {
 	d.ok++
 }
 
-// notRead accepts an end without a reply, and a refusal because the program does not lead.
+// notRead returns nil if all rows could not be read because the connection ended, or because the
+// program does not lead. It returns an error for any other refusal.
 func (d *driver) notRead(err error) error {
 	if text := err.Error(); strings.HasPrefix(text, "9 ") {
 		if !strings.HasPrefix(text, "9 waiting for the lock") &&
@@ -121,7 +124,8 @@ func (d *driver) notRead(err error) error {
 	return nil
 }
 
-// compare compares the rows that were read with the promised ones.
+// compare returns an error if the rows that were read are not the promised ones, with or without
+// the change of unknown outcome. Then it keeps the rows that were read as the promised ones.
 func (d *driver) compare(read rows) error {
 	if d.known != nil {
 		switch got := read.String(); {
@@ -148,7 +152,8 @@ func difference(one, other rows) rows {
 	return found
 }
 
-// change makes one change and reports whether it was OK.
+// change makes one change and reports whether it got OK. It returns an error for a refusal that
+// must not occur.
 func (d *driver) change(l *storeConn) (isOK bool, err error) {
 	message, after := d.choose()
 	reply, err := l.call(commitPath, message)
@@ -242,7 +247,7 @@ func (d *driver) add() (message []byte, after rows) {
 	return addVolume(d.next, volumeName), after
 }
 
-// String summarizes the outcomes.
+// String returns the numbers of the outcomes, and the longest time between two OK, as one line.
 func (d *driver) String() string {
 	return fmt.Sprintf("%d OK, %d ends without a reply of which %d were made, refusals %v, at most %v between two OK",
 		d.ok, d.unknown, d.made, d.refused, d.gap.Round(time.Millisecond))

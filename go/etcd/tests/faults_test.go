@@ -140,7 +140,7 @@ func transactions(t *testing.T, cluster *clusters.Cluster) (count int) {
 	return count
 }
 
-// revision returns the revision of etcd.
+// revision returns the newest revision of etcd.
 func revision(t *testing.T, client *clientv3.Client) int64 {
 	t.Helper()
 	read, err := client.Get(context.Background(), name)
@@ -200,7 +200,7 @@ func (f *filling) wantKnown(t *testing.T) {
 	}
 }
 
-// removeEven removes the volumes with even numbers.
+// removeEven detaches and removes the known volumes with even numbers.
 func (f *filling) removeEven(t *testing.T) {
 	t.Helper()
 	for number := uint64(2); number < f.next; number += 2 {
@@ -278,7 +278,7 @@ func TestCompacted(t *testing.T) {
 	}
 }
 
-// tokenOf returns the message that requests the page after this one.
+// tokenOf returns the message, in hexadecimal, that requests the page after this one.
 func tokenOf(t *testing.T, page []byte) string {
 	t.Helper()
 	parts := fields(page)
@@ -299,7 +299,7 @@ type restored struct {
 	answered int64
 }
 
-// start starts a csid-etcd with the file of the revision.
+// start starts a csid-etcd with --revision and further arguments.
 func (r *restored) start(t *testing.T, args ...string) program {
 	t.Helper()
 	args = append([]string{"--lease", "3", "--timeout", "1s", "--revision", r.file}, args...)
@@ -322,7 +322,7 @@ func (r *restored) raise(t *testing.T) {
 	}
 }
 
-// wantFile waits until the file has a revision.
+// wantFile waits until the file of --revision has this revision.
 func (r *restored) wantFile(t *testing.T, want int64) {
 	t.Helper()
 	processes.Eventually(t, "the file of the revision", func() bool {
@@ -347,7 +347,7 @@ func (r *restored) wantRefusal(t *testing.T, p program) {
 	})
 }
 
-// wantEnd ends a program, and checks its status.
+// wantEnd ends a program with SIGTERM, and checks that its exit status is 0.
 func wantEnd(t *testing.T, p program) {
 	t.Helper()
 	p.Terminate(t)

@@ -34,8 +34,9 @@ func takeLock(t *testing.T, client *clientv3.Client, isByLease bool) {
 	}
 }
 
-// lastConfirmedLead asks a program whether it leads until it no longer confirms it. It returns the
-// time at which the last confirmed question was sent.
+// lastConfirmedLead asks a program again and again if it leads, until the program does not confirm
+// this. It closes asking after the first answer. It returns the time at which the last question
+// that was answered OK was sent, or the zero time if there was none.
 func (p program) lastConfirmedLead(t *testing.T, asking chan<- struct{}) (last time.Time) {
 	l, err := dial(p.Socket)
 	if err != nil {
@@ -57,7 +58,8 @@ func (p program) lastConfirmedLead(t *testing.T, asking chan<- struct{}) (last t
 	}
 }
 
-// firstChangeTime makes a change as soon as the program leads, and returns the time of its OK.
+// firstChangeTime makes a change as soon as the program leads, and returns the time at which the
+// change got OK.
 func (p program) firstChangeTime(t *testing.T) time.Time {
 	t.Helper()
 	processes.Eventually(t, "a change that is answered by OK", func() bool {

@@ -27,8 +27,8 @@ n     1        1 MiB
 const listedNone = "ID  NAME  POOL  SIZE  CAPABILITIES  PARAMETERS  MUTABLE  NODES\n\nPOOL  VOLUMES  SIZE\n\nNODE  " +
 	"VOLUMES  SIZE\n"
 
-// --list shows the volumes in etcd: all of them, or the volumes with a name, of a pool or at a
-// node. Broken rows are refused.
+// The option --list shows the volumes in etcd: all of them, or the volumes with an id or a name, of
+// a pool or at a node. Broken rows are refused.
 func TestList(t *testing.T) {
 	t.Parallel()
 	cluster := clusters.Start(t, 1)

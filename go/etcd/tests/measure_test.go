@@ -18,7 +18,8 @@ import (
 	"./clusters"
 )
 
-// measureCount returns the number of changes that go/etcd/bench measures.
+// measureCount returns the number of changes to measure, which go/etcd/bench sets in MEASURE.
+// Without it, the test is skipped.
 func measureCount(t *testing.T) int {
 	t.Helper()
 	count, err := strconv.Atoi(os.Getenv("MEASURE"))
@@ -56,8 +57,8 @@ func (all times) String() string {
 		all.mean().Round(time.Microsecond), all.at(0.99).Round(time.Microsecond))
 }
 
-// measurePairs measures calls that add volumes, and the same transactions made directly in etcd.
-// They alternate, so that both meet the same disk.
+// measurePairs measures calls of add, which adds a volume, and the same transactions made directly
+// in etcd. They alternate, so that both meet the same disk. The first 50 pairs are not measured.
 func measurePairs(t *testing.T, count int, client *clientv3.Client, add func(number uint64, volumeName string)) (adds,
 	bare times) {
 	t.Helper()
@@ -87,13 +88,15 @@ func measurePairs(t *testing.T, count int, client *clientv3.Client, add func(num
 	return adds, bare
 }
 
-// ratios compares the durations of two kinds of calls.
+// ratios returns the median and the mean of these, divided by the median and the mean of others, as
+// text.
 func ratios(these, others times) string {
 	return fmt.Sprintf("%.3f times in the middle, %.3f in the mean", float64(these.at(0.5))/float64(others.at(0.5)),
 		float64(these.mean())/float64(others.mean()))
 }
 
-// A change through csid-etcd, compared with its transaction made directly in etcd.
+// The test measures the time of a change through csid-etcd, and of the same transaction made
+// directly in etcd.
 func TestMeasureChanges(t *testing.T) {
 	count := measureCount(t)
 	for _, members := range []int{1, 3} {
@@ -143,7 +146,8 @@ func dialProbed(t *testing.T, csid *processes.Process) *storeConn {
 	return l
 }
 
-// A CreateVolume of csid over csid-etcd, compared with its transaction made directly in etcd.
+// The test measures the time of a CreateVolume of csid over csid-etcd, and of the same transaction
+// made directly in etcd.
 func TestMeasureCreates(t *testing.T) {
 	count := measureCount(t)
 	for _, members := range []int{1, 3} {
@@ -161,7 +165,8 @@ func TestMeasureCreates(t *testing.T) {
 	}
 }
 
-// The time until csid answers its first call over 100,000 volumes and 50,000 attachments.
+// The test measures the time until csid answers its first call over 100,000 volumes and 50,000
+// attachments.
 func TestMeasureTakeOvers(t *testing.T) {
 	measureCount(t)
 	cluster := clusters.Start(t, 1)
@@ -230,7 +235,7 @@ func (l *storeConn) drain(t *testing.T) (pages int) {
 	}
 }
 
-// The time of reading all rows.
+// The test measures the time of reading all rows, for several numbers of rows.
 func TestMeasureReadings(t *testing.T) {
 	measureCount(t)
 	for _, volumes := range []int{1000, 10000, 100000} {
@@ -257,7 +262,7 @@ func TestMeasureReadings(t *testing.T) {
 	}
 }
 
-// The time of importing and exporting 100,000 volumes.
+// The test measures the time of importing and of exporting 100,000 volumes and 50,000 attachments.
 func TestMeasureMoves(t *testing.T) {
 	measureCount(t)
 	lines, count := manyLines(100000)
@@ -276,8 +281,8 @@ func TestMeasureMoves(t *testing.T) {
 		imported.Round(10*time.Millisecond), exported.Round(10*time.Millisecond))
 }
 
-// csid asks csid-etcd whether it leads before it answers a call that only reads. This question is
-// compared with the read of a key.
+// Before csid answers a call that only reads, it asks csid-etcd if it leads. The test compares the
+// time of this question with the time of reading a key in etcd.
 func TestMeasureQuestions(t *testing.T) {
 	count := measureCount(t)
 	for _, members := range []int{1, 3} {

@@ -65,7 +65,7 @@ func TestWithoutLeader(t *testing.T) {
 	}
 }
 
-// wantRows checks that the rows are those that the replies promised.
+// wantRows checks that the program reads the rows that the replies to the driver promised.
 func wantRows(t *testing.T, d *driver, p program) {
 	t.Helper()
 	var err error

@@ -16,7 +16,7 @@ import (
 	"./clusters"
 )
 
-// result is the status and the output of a program.
+// result is the exit status and the output of a program.
 type result struct {
 	status         int
 	stdout, stderr string
@@ -53,7 +53,8 @@ const (
 		"INSERT INTO volumes VALUES (1,'a',1048576,'ssd',X'1a060a001a020801',X'');\nCOMMIT;\n"
 )
 
-// manyLines returns that many volumes, half as many attachments and meta, and the number of lines.
+// manyLines returns the lines of this number of volumes, half as many attachments and meta, and the
+// number of lines.
 func manyLines(volumes int) (lines string, count int) {
 	var all strings.Builder
 	for n := 1; n <= volumes; n++ {
@@ -272,8 +273,9 @@ func wantPartialImport(t *testing.T, cluster *clusters.Cluster, p *processes.Pro
 	}
 }
 
-// If a csid-etcd starts in the middle of an import, the import ends. It also ends if etcd ends.
-// csid refuses the rows that were written until somebody removes them.
+// If a csid-etcd starts in the middle of an import, the import ends. It also ends if its rows are
+// removed, if one of its other keys exists, or if etcd ends. csid refuses the rows of an unfinished
+// import.
 func TestImportStopped(t *testing.T) {
 	t.Parallel()
 	lines, count := manyLines(30000)
@@ -313,7 +315,7 @@ func TestImportStopped(t *testing.T) {
 		"csid-etcd: --import: volumes/00000000000000000001: it was removed in the meantime; ", count)
 	cluster.Ctl(t, "del", "--prefix", name+"/")
 
-	// A row that somebody puts in the meantime is not overwritten.
+	// A row that is put by hand in the meantime is not overwritten.
 	relay, p = startImport(t, cluster, lines)
 	put(t, client, name+"/volumes/00000000000000030000", "x")
 	relay.resume()

@@ -16,7 +16,7 @@ import (
 	"./clusters"
 )
 
-// The status and the output of a program that ends before it serves.
+// A program that ends before it serves has this exit status and this output.
 func TestArguments(t *testing.T) {
 	t.Parallel()
 	folder := processes.Folder(t)
@@ -72,8 +72,8 @@ func TestArguments(t *testing.T) {
 	}
 }
 
-// Only their user may use the socket and the file of the revision, whatever the umask is. Both
-// replace the files of an earlier process.
+// Only their user may use the socket and the file of the revision, also with umask 0. A later
+// process replaces both.
 func TestModes(t *testing.T) {
 	t.Parallel()
 	cluster := clusters.Start(t, 1)
@@ -118,7 +118,7 @@ func TestBeforeEtcd(t *testing.T) {
 	l.wantReply(t, readPath, "", codes.OK, "2200")
 }
 
-// Before etcd's first answer each call is refused, even the question whether the program leads.
+// Before etcd's first answer each call is refused, even Lead, the question if the program leads.
 func TestBeforeTheFirstAnswer(t *testing.T) {
 	t.Parallel()
 	// An etcd that accepts connections and answers nothing.

@@ -71,7 +71,8 @@ func TestRows(t *testing.T) {
 	}
 }
 
-// Each change compares what it requires. After a failed comparison nothing is made.
+// Each change compares what it requires. After a failed comparison, and after a malformed call,
+// nothing is made.
 func TestComparisons(t *testing.T) {
 	t.Parallel()
 	cluster, _, l := startLeading(t)
@@ -126,7 +127,7 @@ func TestComparisons(t *testing.T) {
 	}
 }
 
-// A volume may have the greatest number and the most bytes.
+// A volume may have the number 2^63-2 and 2^63-1 bytes, the greatest ones.
 func TestGreatestVolume(t *testing.T) {
 	t.Parallel()
 	cluster, _, l := startLeading(t)
@@ -203,7 +204,7 @@ func TestChangedMeanwhile(t *testing.T) {
 	}
 }
 
-// fill puts that many volumes, half as many attachments, and the row of meta.
+// fill puts count volumes, half as many attachments, and the row of meta.
 func fill(t *testing.T, client *clientv3.Client, count int) {
 	t.Helper()
 	var ops []clientv3.Op
@@ -335,7 +336,8 @@ func (l *storeConn) wantClosed(t *testing.T) {
 	}
 }
 
-// While connections replace each other, each change with a reply is there, and no other.
+// While connections replace each other, each change with a reply is made. Of the other changes,
+// only one whose reply the test did not await may be made.
 func TestReplacedConnections(t *testing.T) {
 	t.Parallel()
 	_, p, _ := startLeading(t)

@@ -121,7 +121,7 @@ func TestRowsThatBreakRules(t *testing.T) {
 	}
 }
 
-// clean removes all rows.
+// clean removes all rows of the plugin from etcd, and leaves its lock.
 func clean(t *testing.T, client *clientv3.Client) {
 	t.Helper()
 	for _, part := range []string{"/meta", "/volumes/", "/attachments/"} {

@@ -101,7 +101,9 @@ func startSecure(t *testing.T, a *authority, count int) *clusters.Cluster {
 	return c
 }
 
-// Members accept TLS with a valid certificate, and nothing else.
+// With certificates that are valid for both sides, a program reaches the members by TLS, also if
+// the endpoints have no https://. Otherwise it waits for the lock, and its line names the
+// certificate.
 func TestTLS(t *testing.T) {
 	t.Parallel()
 	a := newAuthority(t)
@@ -209,7 +211,7 @@ func newRotation(t *testing.T) *rotation {
 	return r
 }
 
-// trust writes the file of trusted authorities.
+// trust makes the certificates of these authorities the content of the file ca.pem.
 func (r *rotation) trust(t *testing.T, trusted ...*authority) {
 	t.Helper()
 	var all []byte
@@ -277,7 +279,7 @@ func (u *userCluster) args(more ...string) []string {
 	return append([]string{"--user", "csid", "--password-file", u.password}, more...)
 }
 
-// write writes the file of the password.
+// write makes text the content of the file of the password.
 func (u *userCluster) write(t *testing.T, text string) {
 	t.Helper()
 	if err := os.WriteFile(u.password, []byte(text), 0o600); err != nil {

@@ -49,7 +49,7 @@ max_volumes = 12
 `
 )
 
-// stack is a csid-etcd with its csid and its front, which are killed and started again.
+// stack is a csid-etcd with its csid and its front. Tests kill these programs and start them again.
 type stack struct {
 	name      string
 	folder    string
@@ -203,7 +203,7 @@ func (f *fleet) note(method string, why *status.Status, begin time.Time) {
 	}
 }
 
-// servedSince reports whether a call that was sent after a time was answered OK.
+// servedSince reports whether a call that was sent after this time was answered OK.
 func (f *fleet) servedSince(since time.Time) bool {
 	f.mutex.Lock()
 	defer f.mutex.Unlock()
@@ -344,9 +344,10 @@ func storedRows(client *clientv3.Client) (all []string, next int, err error) {
 	return all, next, nil
 }
 
-// watchRows reads the rows again and again, and checks them at each revision. The volumes must fit
-// in the pool. No name may occur twice. Each number must be below the next number. Each attachment
-// must have a volume, and be the only attachment of this volume.
+// watchRows reads the rows again and again until the context ends, and checks them at each revision
+// that it reads. It returns the number of checks. The volumes must fit in the pool. No name may
+// occur twice. Each number must be below the next number. Each attachment must have a volume, and
+// be the only attachment of this volume.
 func watchRows(t *testing.T, client *clientv3.Client, ctx context.Context) (checks int) {
 	for ; ctx.Err() == nil; time.Sleep(50 * time.Millisecond) {
 		all, next, err := storedRows(client)
@@ -431,7 +432,7 @@ const (
 	leadingMember = "leader of etcd"
 )
 
-// member returns the member of etcd to kill, or nil if the victim is another program.
+// member returns the member of etcd to kill, or nil if the victim is not a member of etcd.
 func (f *fleet) member(who victim, random *rand.Rand) *clusters.Member {
 	switch who.name {
 	case anyMember:
@@ -443,7 +444,8 @@ func (f *fleet) member(who victim, random *rand.Rand) *clusters.Member {
 }
 
 // Eight callers make calls to two stacks. Again and again the serving stack loses its csid-etcd,
-// its csid or its front, or etcd loses one of its three members.
+// its csid or its front, or etcd loses one of its three members. At the end etcd has exactly the
+// rows that the replies promise.
 func TestStacks(t *testing.T) {
 	help, err := exec.Command(processes.CsidProgram(t), "serve", "--help").Output()
 	if err != nil || !strings.Contains(string(help), "--log") {
@@ -542,8 +544,8 @@ func (f *fleet) killOnce(client *clientv3.Client, random *rand.Rand, who victim)
 	return gap
 }
 
-// waitServed waits until a call that was sent after the kill is answered, and returns how long that
-// took. After a moment it starts the killed programs again.
+// waitServed waits until a call that was sent after the kill is answered OK, and returns the time
+// since the kill. After a moment it starts the killed programs again.
 func (f *fleet) waitServed(s *stack, who victim, killed time.Time) time.Duration {
 	restarted := false
 	for !f.servedSince(killed) {

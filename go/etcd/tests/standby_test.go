@@ -28,8 +28,8 @@ func startPair(t *testing.T, cluster *clusters.Cluster) (first, second program) 
 	return first, second
 }
 
-// waitLeadingSince waits until the program leads after the start of its log, and returns how long
-// that took.
+// waitLeadingSince waits until the log of the program, after its first `before` bytes, reports that
+// it leads. It returns the time of the wait.
 func (p program) waitLeadingSince(t *testing.T, before int) time.Duration {
 	t.Helper()
 	begin := time.Now()
@@ -56,7 +56,7 @@ func (p program) wantWaiting(t *testing.T, holder string) {
 }
 
 // A waiting program refuses calls at once. It leads within the lease and 2 s after the leading
-// program is killed, and at once after the leading program has ended.
+// program is killed, and within a second after the leading program got a signal to end.
 func TestStandby(t *testing.T) {
 	t.Parallel()
 	cluster := clusters.Start(t, 3)
@@ -115,8 +115,8 @@ func (p program) stop(t *testing.T) {
 	})
 }
 
-// A program that was stopped for twice its lease closes its connection. It writes no reply, even to
-// a call that arrived before, and does not confirm its lead.
+// A program that was stopped for twice its lease gives no OK when it goes on: neither to a change
+// nor to Lead, even if the call arrived while the program was stopped.
 func TestStopped(t *testing.T) {
 	t.Parallel()
 	cluster := clusters.Start(t, 3)
@@ -212,7 +212,7 @@ func TestEnd(t *testing.T) {
 	}
 }
 
-// If somebody deletes the key of a program, the program loses the lock, and gets it again with
+// If the key of a program is deleted by hand, the program loses the lock, and gets it again with
 // another key. The value of the key is --id.
 func TestLockTakenAway(t *testing.T) {
 	t.Parallel()

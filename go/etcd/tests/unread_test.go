@@ -15,7 +15,8 @@ import (
 	"./clusters"
 )
 
-// lockHolder returns the --id of the holder of the lock and the lease of its key, or nothing.
+// lockHolder returns the --id of the holder of the lock and the lease of its key. Without a holder
+// they are "" and 0.
 func lockHolder(t *testing.T, client *clientv3.Client) (id string, lease clientv3.LeaseID) {
 	t.Helper()
 	read, err := client.Get(context.Background(), name+"/lock/", clientv3.WithFirstCreate()...)
@@ -44,8 +45,8 @@ func (p program) waitConfirmsLead(t *testing.T) {
 }
 
 // A program whose standard error accepts no line answers calls and keeps the lock. It gives up the
-// lock and waits for it like any other program. It drops lines, and reports their number when
-// somebody reads.
+// lock and waits for it like any other program. It drops lines, and reports their number when the
+// lines are read.
 func TestUnreadLog(t *testing.T) {
 	t.Parallel()
 	pipe := processes.NewFullPipe(t)

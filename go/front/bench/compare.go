@@ -6,15 +6,15 @@ import (
 	"path/filepath"
 )
 
-// The folders in which csid and the driver keep their files: on the disk of temporary files, and in
-// memory.
+// The folders in which csid and the driver keep their files: the folder of temporary files, on a
+// disk, and a file system in memory.
 var folders = []struct{ name, path string }{{"disk", os.TempDir()}, {"tmpfs", "/dev/shm"}}
 
 // The numbers of callers in the comparison with a driver, in ascending order.
 var comparedCallers = []int{1, 8, 64}
 
-// compare measures each work through the front and csid, and with a driver in Go. Both get the same
-// calls from the same number of callers, in rounds that alternate.
+// compare measures each of the works through the front and csid, and through a driver in Go. Both
+// get the same calls from the same number of callers, in rounds that alternate.
 func compare(csid, front, driver string, rounds int) error {
 	for i, folder := range folders {
 		if err := compareIn(folder.path, folder.name, csid, front, driver, rounds, i == 0); err != nil {
@@ -24,8 +24,8 @@ func compare(csid, front, driver string, rounds int) error {
 	return nil
 }
 
-// compareIn compares with files in one folder. Work that changes nothing is measured only if isAll
-// is true.
+// compareIn compares the front and csid with the driver, with their files in a new folder below
+// path. Work that changes nothing is measured only if isAll is true.
 func compareIn(path, name, csid, front, driver string, rounds int, isAll bool) error {
 	folder, err := os.MkdirTemp(path, "front")
 	if err != nil {

@@ -53,8 +53,8 @@ type caller interface {
 	call(path string, message []byte) ([]byte, error)
 }
 
-// work is work that is measured. do makes the calls of turn i of a caller; their number is calls.
-// changes is true if they change volumes.
+// work is a sequence of calls that is measured. do makes these calls once, as turn i of a caller;
+// calls is their number. changes is true if they change volumes.
 type work struct {
 	name    string
 	calls   int
@@ -74,7 +74,7 @@ var works = []work{
 	{"mix", 5, true, mix},
 }
 
-// padded is a message of one unknown field of 65,536 bytes.
+// padded is a message of 65,536 bytes with one unknown field.
 var padded = append([]byte{0x7a, 0xfc, 0xff, 3}, make([]byte, 65532)...)
 
 func wants(c caller, path string, message, want []byte) error {
@@ -93,7 +93,8 @@ func createAndDelete(c caller, caller, i int) error {
 	return wants(c, controller+"DeleteVolume", volume, []byte{})
 }
 
-// create makes a volume, and returns its id as field 1 of a message.
+// create makes a volume of 1 MiB, and returns a message with its id in field 1, as DeleteVolume
+// takes it.
 func create(c caller, caller, i int) ([]byte, error) {
 	name := fmt.Sprintf("pvc-%d-%d", caller, i)
 	message := append([]byte{0x0a, byte(len(name))}, name...)
@@ -112,13 +113,13 @@ func create(c caller, caller, i int) ([]byte, error) {
 // readonly is the body of ControllerPublishVolume: the context "readonly", "false".
 var readonly = []byte("\x0a\x11\x0a\x08readonly\x12\x05false")
 
-// pageEntries is the greatest number of entries of a page.
+// pageEntries is the max_entries of each ListVolumes.
 const pageEntries = 10
 
 // entryTag is the tag of an entry in a page: field 1 of ListVolumesResponse.
 const entryTag = 0x0a
 
-// entries returns the number of entries in a page.
+// entries returns the number of entries in a page, up to a malformed field.
 func entries(page []byte) (count int) {
 	for len(page) > 0 {
 		size, varint := binary.Uvarint(page[1:])
@@ -134,7 +135,8 @@ func entries(page []byte) (count int) {
 }
 
 // mix makes a volume, publishes it, lists it with up to nine others, unpublishes it and deletes it.
-// A full page may not have the volume of this caller.
+// A full page may leave out the volume of this caller, so only a shorter page must have a published
+// volume.
 func mix(c caller, caller, i int) error {
 	volume, err := create(c, caller, i)
 	if err != nil {
@@ -209,14 +211,15 @@ func newSidecar(socket string) (caller, error) {
 	return sidecar{conn}, err
 }
 
-// round is the result of one round: the calls a second, and the times of calls in ascending order.
-// The time of a call is the time of its turn, divided by the number of calls of the turn.
+// round is the result of one round: the calls a second, and for each turn the mean time of its
+// calls, in ascending order.
 type round struct {
 	rate  float64
 	times []time.Duration
 }
 
-// measure lets the callers do the work in rounds of a second, and prints the best round.
+// measure lets the callers do the work in rounds of a second, and prints the round with the most
+// calls.
 func measure(name string, w work, callers []caller, rounds int) error {
 	best, err := bestRounds(w, [][]caller{callers}, rounds)
 	if err != nil {
@@ -230,8 +233,8 @@ func measure(name string, w work, callers []caller, rounds int) error {
 	return nil
 }
 
-// bestRounds lets groups of callers do the work in turn, in rounds of a second. It returns the best
-// round of each group.
+// bestRounds lets groups of callers do the work in turn, in rounds of a second. It returns the
+// round with the most calls of each group.
 func bestRounds(w work, groups [][]caller, rounds int) ([]round, error) {
 	best := make([]round, len(groups))
 	for i := 0; i < rounds; i++ {
@@ -248,7 +251,8 @@ func bestRounds(w work, groups [][]caller, rounds int) ([]round, error) {
 	return best, nil
 }
 
-// oneRound lets the callers do the work for the given time.
+// oneRound lets the callers do the work for the given time, and returns the first failure, if there
+// was one.
 func oneRound(w work, callers []caller, length time.Duration) (round, error) {
 	times := make([][]time.Duration, len(callers))
 	failures := make(chan error, len(callers))
@@ -283,7 +287,8 @@ func oneRound(w work, callers []caller, length time.Duration) (round, error) {
 	return round{float64(len(sorted)*w.calls) / spent.Seconds(), sorted}, nil
 }
 
-// start runs a program until the bench ends, and waits for its socket.
+// start starts a program, and waits until its socket takes a connection. After about 5 seconds it
+// kills the program and fails. The caller must kill a program that was started.
 func start(socket, program string, words ...string) (*exec.Cmd, error) {
 	command := exec.Command(program, words...)
 	command.Stderr = os.Stderr
@@ -319,7 +324,7 @@ func startCsid(program, folder, socket, tables string) (*exec.Cmd, error) {
 // maxCallers is the greatest number of callers in the comparison with csid alone.
 const maxCallers = 8
 
-// newCallers returns callers, each with its own connection.
+// newCallers returns count callers, each with its own gRPC connection.
 func newCallers(socket string, count int) (callers []caller, err error) {
 	for len(callers) < count {
 		each, err := newSidecar(socket)
@@ -331,7 +336,7 @@ func newCallers(socket string, count int) (callers []caller, err error) {
 	return callers, nil
 }
 
-// throughFront measures each work with one caller and with eight.
+// throughFront measures each of the works through a new front, with one caller and with maxCallers.
 func throughFront(program, csid, folder string, rounds int) error {
 	socket := filepath.Join(folder, "csi.sock")
 	front, err := start(socket, program, "--csid", csid, "--listen", socket)
@@ -347,8 +352,8 @@ func throughFront(program, csid, folder string, rounds int) error {
 	return measureAll("front and csid", callers, rounds)
 }
 
-// alone measures each work over one connection to csid, with one caller and with eight who take
-// turns.
+// alone measures each of the works over one connection to csid, with one caller and with maxCallers
+// that take turns.
 func alone(csid string, rounds int) error {
 	conn, err := net.Dial("unix", csid)
 	if err != nil {

@@ -17,7 +17,8 @@ import (
 )
 
 // The settings of the three measurements: a stop of csid, callers with short deadlines, and quiet
-// peers.
+// peers. beforeStop and behindStop are how long callers run before the stop and after service came
+// back.
 const (
 	stopCallers   = 100
 	stopDeadline  = 10 * time.Second
@@ -30,26 +31,26 @@ const (
 	quietPeers    = 1000
 )
 
-// allowed is how long service may be missing after a stop, in addition to one opening of the file.
-// waited is how long the bench waits for service.
+// allowed is the time for which service may be missing after the stop has ended, in addition to one
+// opening of the file. waited is the longest wait of the bench for service.
 const (
 	allowed = 2 * time.Second
 	waited  = 90 * time.Second
 )
 
-// repeating is a caller that creates and deletes volumes. Each call has a deadline, and is repeated
-// if it fails.
+// repeating is a caller that creates and deletes volumes, with a deadline for each attempt at a
+// call. A call that fails is repeated.
 type repeating struct {
 	*grpc.ClientConn
 	number   int
 	deadline time.Duration
-	// When its last successful call ended, in nanoseconds since 1970.
+	// The time at which its last successful call ended, in nanoseconds since 1970.
 	served int64
-	// The number of successful calls, and the number of failed ones.
+	// The number of successful calls, and the number of failed attempts.
 	done, lost int64
 }
 
-// run calls until the context ends.
+// run creates a volume and deletes it, again and again until the context ends.
 func (r *repeating) run(ctx context.Context) {
 	for i := 0; ctx.Err() == nil; i++ {
 		name := fmt.Sprintf("stall-%d-%d", r.number, i)
@@ -62,7 +63,8 @@ func (r *repeating) run(ctx context.Context) {
 	}
 }
 
-// repeat makes a call until it succeeds, and returns the body of the reply.
+// repeat makes a call until it succeeds, and returns the body of the reply. If the context ends
+// first, it returns nil.
 func (r *repeating) repeat(ctx context.Context, path string, message []byte) (body []byte) {
 	for ctx.Err() == nil {
 		limited, cancel := context.WithTimeout(ctx, r.deadline)
@@ -117,7 +119,7 @@ func newCrowd(socket string, callers int, deadline time.Duration) (*crowd, error
 	return c, nil
 }
 
-// counts returns the numbers of successful and of failed calls so far.
+// counts returns the numbers of successful calls and of failed attempts so far.
 func (c *crowd) counts() (done, lost int64) {
 	for _, each := range c.callers {
 		done += atomic.LoadInt64(&each.done)
@@ -136,8 +138,8 @@ func (c *crowd) servedSince(begin time.Time) (callers int) {
 	return callers
 }
 
-// until waits until a number of callers had a successful call after begin, and returns how long
-// that took.
+// until waits until at least this number of callers had a successful call after begin, and returns
+// the time since begin. It fails after the time waited.
 func (c *crowd) until(begin time.Time, callers int) (time.Duration, error) {
 	for time.Since(begin) < waited {
 		if c.servedSince(begin) >= callers {
@@ -148,7 +150,8 @@ func (c *crowd) until(begin time.Time, callers int) (time.Duration, error) {
 	return 0, fmt.Errorf("%d of %d callers were served in %v", c.servedSince(begin), len(c.callers), waited)
 }
 
-// behindFront starts csid with a file of tables, and a front for it, and then calls do.
+// behindFront starts csid with a file of tables (a new file if tables is empty) and a front for it,
+// and then calls do.
 func behindFront(program, front, tables string, do func(csid *os.Process, csidSocket, socket string) error) error {
 	folder, err := os.MkdirTemp("", "front")
 	if err != nil {
@@ -223,7 +226,8 @@ func stop(csid *os.Process, csidSocket, socket string) error {
 	return comesBack(crowd, opened)
 }
 
-// comesBack prints when callers were served again. It fails if this was too late.
+// comesBack prints how long after the stop the first and the last of the callers were served. It
+// fails if the last one was served later than allowed plus the time of one opening.
 func comesBack(crowd *crowd, opened time.Duration) error {
 	begin := time.Now()
 	first, err := crowd.until(begin, 1)
@@ -246,8 +250,8 @@ func comesBack(crowd *crowd, opened time.Duration) error {
 	return nil
 }
 
-// crowdIn connects peers to csid. Each of them sends the same bytes and then nothing more. The
-// function end closes their connections.
+// crowdIn connects peers to csid. Each of them sends the same bytes, and then nothing more. The
+// function end closes their connections, and is returned with an error too.
 func crowdIn(socket string, peers int, sent []byte) (end func(), err error) {
 	var conns []net.Conn
 	end = func() {
@@ -267,8 +271,9 @@ func crowdIn(socket string, peers int, sent []byte) (end func(), err error) {
 	return end, nil
 }
 
-// quiet prints how long a call waits after peers that stay connected and send nothing, or garbage.
-// It measures a call over a new connection to csid, and then the first call of the front.
+// quiet prints how long a call waits while quietPeers that send nothing and quietPeers that sent
+// garbage stay connected. It measures a call over a new connection to csid, and then the first call
+// of the front.
 func quiet(_ *os.Process, csidSocket, socket string) error {
 	opened, err := opening(csidSocket)
 	if err != nil {
@@ -304,8 +309,8 @@ func quiet(_ *os.Process, csidSocket, socket string) error {
 	return nil
 }
 
-// hasty compares callers with short deadlines to patient callers. It fails if they get less than
-// half of the calls a second.
+// hasty compares callers with short deadlines to callers with a deadline of a minute. It fails if
+// the hasty callers get less than half of the calls a second of the patient ones.
 func hasty(_ *os.Process, _, socket string) error {
 	rates := map[time.Duration]float64{}
 	for _, deadline := range []time.Duration{time.Minute, hastyDeadline} {

@@ -89,7 +89,8 @@ func TestClientThatGoesAway(t *testing.T) {
 	csid.dropsLate(t, newClient(t, process.Socket), let)
 }
 
-// A late reply that is malformed, incomplete or followed by further bytes ends the connection.
+// A late reply that is malformed, incomplete, followed by further bytes, or of status 13 ends the
+// connection. The next call goes over a new connection.
 func TestLateReplyThatIsWrong(t *testing.T) {
 	t.Parallel()
 	rows := map[string]step{
@@ -253,7 +254,7 @@ func TestCompressedMessage(t *testing.T) {
 	csid.sees(t)
 }
 
-// A unary call has one message.
+// A call without a message or with two messages is refused, and csid does not see it.
 func TestOneMessageACall(t *testing.T) {
 	t.Parallel()
 	csid, front := behindFront(t)
@@ -276,14 +277,14 @@ func TestOneMessageACall(t *testing.T) {
 	csid.sees(t, "/a/b 01")
 }
 
-// Each refused call has one line, with its path, code, text and milliseconds, and never its
-// message. Calls with OK have no line.
+// Each call that is refused or lost has one line, with its path, code, text and milliseconds, and
+// never its message. Calls with OK have no line.
 func TestLog(t *testing.T) {
 	t.Parallel()
 	csid := startFake(t, step{write: okFrame("")}, step{write: refusalFrame(9, "volume is in use")}, step{close: true})
 	process := processes.StartFront(t, csid.socket)
 	front := newClient(t, process.Socket)
-	secret := "2a070a0168120270772a" // any bytes: the front reads none
+	secret := "2a070a0168120270772a" // any bytes: the front does not read messages
 	front.call(t, "/a/done", secret)
 	front.call(t, "/a/refused", secret)
 	front.call(t, "/a/lost", secret)

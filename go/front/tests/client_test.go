@@ -34,7 +34,7 @@ func (bytesCodec) Unmarshal(data []byte, v interface{}) error { *v.(*[]byte) = d
 func (bytesCodec) Name() string                               { return "proto" }
 func (bytesCodec) String() string                             { return "bytes" }
 
-// answer is the result of a call: the body in hexadecimal, or a code and a text.
+// answer is the result of a call: OK and the body in hexadecimal, or another code and a text.
 type answer struct {
 	code codes.Code
 	text string
@@ -65,7 +65,7 @@ func newClient(t *testing.T, socket string) *client {
 	return &client{conn}
 }
 
-// send makes a call under a context.
+// send makes a call with a message as bytes. The context can end the call.
 func (c *client) send(ctx context.Context, path string, message []byte) answer {
 	var body []byte
 	if err := c.Invoke(ctx, path, message, &body); err != nil {
@@ -85,7 +85,7 @@ func (c *client) call(t *testing.T, path, message string) answer {
 	return c.send(ctx, path, fromHex(t, message))
 }
 
-// wants makes a call and compares its answer.
+// wants makes a call, and checks that its answer is want.
 func (c *client) wants(t *testing.T, path, message string, want answer) {
 	t.Helper()
 	if got := c.call(t, path, message); got != want {
@@ -93,7 +93,8 @@ func (c *client) wants(t *testing.T, path, message string, want answer) {
 	}
 }
 
-// isLost makes a call, and checks that its outcome is open: an orchestrator must repeat the call.
+// isLost makes a call, and checks that the answer is UNAVAILABLE because of csid: the outcome is
+// open, and an orchestrator must repeat the call.
 func (c *client) isLost(t *testing.T, path, message string) {
 	t.Helper()
 	if got := c.call(t, path, message); got.code != codes.Unavailable || !strings.HasPrefix(got.text, "csid: ") {
@@ -103,7 +104,7 @@ func (c *client) isLost(t *testing.T, path, message string) {
 
 var fromHex = fixtures.FromHex
 
-// soon returns a context that ends after this time.
+// soon returns a context that ends after this length of time.
 func soon(t *testing.T, length time.Duration) context.Context {
 	t.Helper()
 	ctx, cancel := context.WithTimeout(context.Background(), length)

@@ -16,7 +16,7 @@ import (
 	"./processes"
 )
 
-// goroutines returns the number of goroutines of a front.
+// goroutines returns the number of goroutines of a front, by its metrics at the URL monitor.
 func goroutines(t *testing.T, monitor string) int {
 	t.Helper()
 	_, text := get(t, monitor+"/metrics")
@@ -28,7 +28,8 @@ func goroutines(t *testing.T, monitor string) int {
 	return number
 }
 
-// repeated returns 1,000 frames that write makes, each of which the front must answer.
+// repeated returns the bytes of 1,000 frames that write makes. The front must answer each of these
+// frames.
 func repeated(write func(*http2.Framer)) []byte {
 	var out bytes.Buffer
 	framer := http2.NewFramer(&out, nil)
@@ -60,7 +61,8 @@ func floods(t *testing.T, socket string, frames []byte, isEndless bool) {
 	}
 }
 
-// Connections that send frames which must be answered leave nothing after they are closed.
+// Connections that send many frames which must be answered, and read no answers, leave no
+// goroutines and no open files after they are closed.
 func TestConnectionsThatFlood(t *testing.T) {
 	t.Parallel()
 	process, monitor := watched(t, startFake(t).socket)
@@ -86,7 +88,7 @@ func TestConnectionsThatFlood(t *testing.T) {
 	}
 }
 
-// A client that sends PING as often as it likes keeps its connection, and its calls are answered.
+// A client that sends a thousand PINGs at once keeps its connection, and each PING is answered.
 func TestClientThatPings(t *testing.T) {
 	t.Parallel()
 	conn, framer := speak(t, processes.StartFront(t, startFake(t).socket).Socket)

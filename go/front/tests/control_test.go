@@ -17,7 +17,8 @@ import (
 	"fomaheti/frames"
 )
 
-// controlled starts a front with a control socket, and returns the path of the control socket.
+// controlled starts a front with a control socket. It returns the front and the path of the control
+// socket.
 func controlled(t *testing.T, csid string, words ...string) (*processes.Process, string) {
 	t.Helper()
 	path := filepath.Join(processes.Folder(t), "control.sock")
@@ -108,7 +109,8 @@ func TestControlSocketByClient(t *testing.T) {
 	}
 }
 
-// A call of the control socket waits for other calls, and calls of gRPC wait for it.
+// A call of the control socket waits while csid works on a call of gRPC. Both go over the same
+// connection to csid.
 func TestTurnOfControl(t *testing.T) {
 	t.Parallel()
 	let := make(chan struct{})

@@ -26,16 +26,16 @@ const (
 	vol1    = "0a05 766f6c2d31"                    // volume_id "vol-1"
 	vol2    = "0a05 766f6c2d32"                    // volume_id "vol-2"
 	n1      = "1202 6e31"                          // node_id "n1"
-	createA = "0a0161" + block                     // the name "a"
+	createA = "0a0161" + block                     // the name "a", and block
 	threeB  = "1205 088080c001"                    // capacity_range of at least 3 MiB
-	zoneB   = "3a0d 0a0b 0a09 0a047a6f6e65 120162" // one requisite topology
+	zoneB   = "3a0d 0a0b 0a09 0a047a6f6e65 120162" // the requisite topology zone=b
 	// 'vol-1', 1 MiB of the pool p1 in zone a; 'vol-2', 3 MiB of the pool p2 in zone b.
 	volume1 = "0a24 08808040 1205 766f6c2d31 1a0a 0a04706f6f6c 12027031 2a0b 0a09 0a047a6f6e65 120161"
 	volume2 = "0a25 088080c001 1205 766f6c2d32 1a0a 0a04706f6f6c 12027032 2a0b 0a09 0a047a6f6e65 120162"
 )
 
-// Calls of an orchestrator under the sample configuration (docs/OPERATING.md), and their answers. A
-// row sees the volumes of the rows before it.
+// Calls of an orchestrator under the sample configuration (docs/OPERATING.md), and their answers.
+// One csid gets them in this order, so a call finds the volumes of the calls before it.
 var callsOfVolumes = []struct {
 	path, message string
 	want          answer
@@ -116,7 +116,8 @@ name = "p1"
 bytes = 1099511627776
 `
 
-// create creates a volume with a name of fewer than 128 bytes, and returns its id.
+// create asks for a volume with a name of fewer than 128 bytes. It returns the volume's id, or ""
+// if the call was not answered OK, and the answer.
 func create(ctx context.Context, front *client, name string) (string, answer) {
 	message := append([]byte{0x0a, byte(len(name))}, name...)
 	message = append(message, 0x1a, 6, 0x0a, 0, 0x1a, 2, 8, 1)
@@ -215,7 +216,8 @@ func TestConcurrentCallers(t *testing.T) {
 }
 
 // createThrough creates volumes while csid is killed and started again several times. If the
-// outcome of a call is open, its caller repeats it. No other error may occur.
+// outcome of a call is open, its caller repeats the call. No other error may occur. It returns the
+// volumes that were answered.
 func createThrough(t *testing.T, csid *processes.Server, socket string) *book {
 	const callers, names, kills = 4, 150, 3
 	told, lost, made := &book{}, int32(0), int32(0)
@@ -362,8 +364,8 @@ func TestCsidThatIsAway(t *testing.T) {
 	front.isLost(t, probe, "")
 }
 
-// After ten thousand calls, the front has no more memory and no more open files than after two
-// thousand.
+// After ten thousand more calls, the front and csid have no more open files, and at most 4 MiB more
+// memory.
 func TestTenThousandCalls(t *testing.T) {
 	t.Parallel()
 	csid := processes.StartCsid(t)

@@ -16,10 +16,11 @@ import (
 	"./processes"
 )
 
-// How soon service must be back after a fault has passed.
+// After a fault has passed, service must be back within this time.
 const soonBack = 2 * time.Second
 
-// smallDisk mounts a file system with this number of bytes, and returns its folder.
+// smallDisk mounts a file system with this number of bytes, and returns its folder. It skips the
+// test if no file system can be mounted.
 func smallDisk(t *testing.T, bytes int) string {
 	t.Helper()
 	if os.Geteuid() != 0 {
@@ -63,7 +64,7 @@ func back(t *testing.T, front *client, name string) (string, time.Duration) {
 	}
 }
 
-// While the disk is full, the outcome of each change is open, and calls without a change are
+// While the disk is full, a change succeeds or its outcome is open, and calls without a change are
 // answered. When there is room again, service is back without a restart, and exactly the reported
 // volumes exist.
 func TestFullDisk(t *testing.T) {
@@ -117,7 +118,8 @@ func refusedCreates(t *testing.T, front *client, round int, told *book) (names [
 	return names
 }
 
-// inject makes the next system call with one of these names fail once in a process.
+// inject makes the next system call with one of these names fail once in a process. It skips the
+// test if strace is missing or cannot attach.
 func inject(t *testing.T, p *processes.Process, calls, fault string) {
 	t.Helper()
 	program, err := exec.LookPath("strace")
@@ -159,8 +161,8 @@ func isTraced(t *testing.T, id int) bool {
 	return !strings.Contains(string(text), "\nTracerPid:\t0\n")
 }
 
-// If a write or a sync fails once, its change is refused or has an open outcome, and nothing else
-// is affected.
+// If a write or a sync fails once, the outcome of the change is open, and the same call soon
+// succeeds over the next connection.
 func TestFaultOfTheDisk(t *testing.T) {
 	t.Parallel()
 	for calls, fault := range map[string]string{"fdatasync": "EIO", "pwrite64": "ENOSPC"} {

@@ -14,9 +14,9 @@ import (
 	"./processes"
 )
 
-// step is what a fake csid does with one frame that it read.
+// step has the reaction of a fake csid to one frame that it has read.
 type step struct {
-	// Waits until this is closed, before anything else.
+	// The fake csid first waits until this is closed, if it is not nil.
 	wait <-chan struct{}
 	// Writes these bytes.
 	write []byte
@@ -151,7 +151,8 @@ func (f *fake) answer(conn net.Conn, call string) bool {
 	return !next.close
 }
 
-// readFrame reads one frame, and returns how many bytes of it came.
+// readFrame reads one frame. call is the path, a space and the message in hexadecimal. size is the
+// number of bytes that came, also after an error.
 func readFrame(in io.Reader) (call string, size int, err error) {
 	head := make([]byte, 2)
 	if size, err = io.ReadFull(in, head); err != nil {
@@ -167,7 +168,8 @@ func readFrame(in io.Reader) (call string, size int, err error) {
 	return string(path[:len(path)-5]) + " " + hex.EncodeToString(message), size + count, err
 }
 
-// seen returns the calls that were read, and the number of connections that have ended.
+// seen returns the calls that were read, as readFrame returns them, and the number of connections
+// that have ended.
 func (f *fake) seen() (calls []string, ends int) {
 	f.mutex.Lock()
 	defer f.mutex.Unlock()
@@ -192,7 +194,7 @@ func (f *fake) sees(t *testing.T, want ...string) {
 	}
 }
 
-// ended waits until count connections have ended.
+// ended waits until at least count connections have ended.
 func (f *fake) ended(t *testing.T, count int) {
 	t.Helper()
 	processes.Eventually(t, "the end of a connection to csid", func() bool {
@@ -201,7 +203,7 @@ func (f *fake) ended(t *testing.T, count int) {
 	})
 }
 
-// called waits until count calls were read.
+// called waits until at least count calls were read.
 func (f *fake) called(t *testing.T, count int) {
 	t.Helper()
 	processes.Eventually(t, "a call at csid", func() bool {

@@ -36,7 +36,8 @@ func (h health) wants(t *testing.T, service string, want grpc_health_v1.HealthCh
 	}
 }
 
-// Check reports whether csid serves, for the plugin as a whole and for its two services.
+// Check reports if csid serves, for the plugin as a whole and for its two services. Any other
+// service is refused with NOT_FOUND.
 func TestHealth(t *testing.T) {
 	t.Parallel()
 	const serving, notServing = grpc_health_v1.HealthCheckResponse_SERVING,
@@ -60,7 +61,7 @@ func TestHealth(t *testing.T) {
 	}
 }
 
-// If csid hangs, Check answers NOT_SERVING within a short time, but not before 5 seconds.
+// If csid hangs, Check waits 5 seconds for a Probe, and then answers NOT_SERVING.
 func TestHealthWhileCsidStandsStill(t *testing.T) {
 	t.Parallel()
 	csid := startFake(t, step{mute: true})

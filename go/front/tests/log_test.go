@@ -197,7 +197,8 @@ func TestLogOfTheHTTPServer(t *testing.T) {
 	}
 }
 
-// unread starts a front with this standard error, and returns it with the URL of its metrics.
+// unread starts a front with the file errors as standard error. It returns the front and the URL of
+// its metrics.
 func unread(t *testing.T, csid string, errors *os.File) (*processes.Process, string) {
 	t.Helper()
 	free, err := net.Listen("tcp", "127.0.0.1:0")
@@ -212,8 +213,9 @@ func unread(t *testing.T, csid string, errors *os.File) (*processes.Process, str
 	return processes.Start(t, socket, command).Answers(t), "http://" + monitor
 }
 
-// Calls are answered even if nobody reads standard error, or if the reader has gone. Lines for
-// which there is no room are dropped and counted, and their number is written when somebody reads.
+// Calls are answered even if no reader takes the lines of standard error, or if the reader has
+// gone. Lines for which there is no room are dropped and counted, and their number is written when
+// the lines are read.
 func TestUnreadLog(t *testing.T) {
 	t.Parallel()
 	const calls = 1100
@@ -284,7 +286,7 @@ func TestManyLines(t *testing.T) {
 	}
 }
 
-// The end of the front does not wait long if nobody reads its last line.
+// The end of the front does not wait long if no reader takes its last line.
 func TestUnreadEnd(t *testing.T) {
 	t.Parallel()
 	for name, errors := range map[string]*os.File{"not read": processes.NewFullPipe(t).Out,

@@ -181,7 +181,7 @@ func TestMessagesThatNeverCome(t *testing.T) {
 // silentClient makes calls that send no message. When one of them ends, it makes a new one.
 type silentClient struct {
 	front *client
-	// The number of calls that have begun, and of those that the front has ended.
+	// The number of calls that have begun, and the number of calls that the front has ended.
 	begun, ended int32
 }
 
@@ -198,7 +198,7 @@ func (c *silentClient) call(ctx context.Context) {
 }
 
 // Calls that send no message make room for a call of another client. This call waits neither for
-// the end of all of them nor for the calls that replace them.
+// the end of all of the silent calls nor for the calls that replace them.
 func TestCallsWithoutAMessageThatComeAgain(t *testing.T) {
 	t.Parallel()
 	const clients, calls, probes = 4, 250, 3
@@ -225,8 +225,9 @@ func TestCallsWithoutAMessageThatComeAgain(t *testing.T) {
 	for i := 0; i < probes; i++ {
 		front.wants(t, probe, "", ok(ready))
 	}
-	// Each probe needs one place, and each second without a message empties 16. If places went to
-	// calls in their order, a probe would wait for a thousand calls.
+	// Each probe needs one place, and after each second without a message 16 calls give up their
+	// places. If places went to calls in the order of their arrival, a probe would wait for a
+	// thousand calls.
 	if count := ended() - before; count >= clients*calls {
 		t.Errorf("%d calls ended before %d probes were answered", count, probes)
 	}
@@ -254,8 +255,8 @@ func TestMessagesThatAreAnnounced(t *testing.T) {
 			conn.Close()
 		}
 	}
-	// The memory depends on when Go collects its garbage. With room for each announced message it
-	// would be above this limit.
+	// The memory depends on when Go collects its garbage. With room for each announced message, the
+	// memory would be above this limit.
 	if taken := process.ResidentBytes(t); taken > 384<<20 {
 		t.Errorf("the front takes %d MiB", taken>>20)
 	}
@@ -301,7 +302,8 @@ func TestBoundsOfAClient(t *testing.T) {
 	}
 }
 
-// Calls with very long headers, which no gRPC client sends, leave nothing in memory.
+// Calls with very long headers, which no gRPC client sends, take little memory, and csid does not
+// see them.
 func TestManyLongHeaders(t *testing.T) {
 	t.Parallel()
 	const calls, fields = 50, 4000
@@ -319,7 +321,7 @@ func TestManyLongHeaders(t *testing.T) {
 	csid.sees(t, probe+" ")
 }
 
-// speak makes a connection, and returns it with a framer of HTTP/2.
+// speak makes a connection, begins HTTP/2 on it, and returns it with a framer.
 func speak(t *testing.T, socket string) (net.Conn, *http2.Framer) {
 	t.Helper()
 	conn, err := net.Dial("unix", socket)

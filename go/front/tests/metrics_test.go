@@ -22,14 +22,16 @@ import (
 
 const getCapacity = controller + "GetCapacity"
 
-// watched starts a front that serves metrics, and returns their URL.
+// watched starts a front that serves metrics. It returns the front, and the URL of its HTTP server
+// without a path.
 func watched(t *testing.T, csid string, words ...string) (*processes.Process, string) {
 	t.Helper()
 	front := processes.StartFront(t, csid, append([]string{"--metrics", "127.0.0.1:0"}, words...)...)
 	return front, monitorOf(t, front)
 }
 
-// monitorOf returns the URL at which a front serves metrics.
+// monitorOf waits until a front has logged the address of its metrics, and returns the URL without
+// a path.
 func monitorOf(t *testing.T, front *processes.Process) string {
 	t.Helper()
 	var told []string
@@ -57,8 +59,7 @@ func get(t *testing.T, url string) (int, string) {
 	return answer.StatusCode, string(text)
 }
 
-// series returns the value of each series of the front itself. Of histograms it returns only the
-// counts.
+// series returns the value of each series of the front itself, by its name with its labels.
 func series(t *testing.T, monitor string) map[string]string {
 	t.Helper()
 	status, text := get(t, monitor+"/metrics")
@@ -72,7 +73,8 @@ func series(t *testing.T, monitor string) map[string]string {
 	return all
 }
 
-// wantsSeries compares all series whose names begin with prefix.
+// wantsSeries checks that the series whose names begin with prefix are exactly the wanted ones,
+// with the wanted values.
 func wantsSeries(t *testing.T, got map[string]string, prefix string, want map[string]string) {
 	t.Helper()
 	for name, value := range got {
@@ -98,8 +100,8 @@ func counted(all map[string]string) map[string]string {
 	return some
 }
 
-// Each series after calls of each kind. GetCapacity's field 3 is a topology, whose field 1 is a
-// segment.
+// The series have the wanted values after calls of each kind. GetCapacity's field 3 is a topology,
+// whose field 1 is a segment.
 func TestMetrics(t *testing.T) {
 	t.Parallel()
 	const create, remove = controller + "CreateVolume", controller + "DeleteVolume"
@@ -196,7 +198,7 @@ func TestMetricsOfTheProcess(t *testing.T) {
 	}
 }
 
-// However many unknown methods a client calls, they add only one series for each code.
+// Calls of many unknown methods add only one series for each code.
 func TestMetricsOfInventedMethods(t *testing.T) {
 	t.Parallel()
 	process, monitor := watched(t, startFake(t).socket)
@@ -380,8 +382,8 @@ func TestConnectionsToMetrics(t *testing.T) {
 	}
 }
 
-// The sample configuration has 10 MiB in zone a and 4 MiB in zone b. A volume of 1 MiB is created
-// in zone a, and a volume of 3 MiB in zone b.
+// The metrics have the free bytes of each topology. The sample configuration has 10 MiB in zone a
+// and 4 MiB in zone b, and a volume takes 1 MiB in zone a and another 3 MiB in zone b.
 func TestMetricsOfPools(t *testing.T) {
 	t.Parallel()
 	process, monitor := watched(t, processes.StartCsid(t).Socket(), "--metrics-topology", "zone=a",
@@ -397,8 +399,8 @@ func TestMetricsOfPools(t *testing.T) {
 	})
 }
 
-// A front that starts finds 205 volumes on three pages. It reports what they take of a pool of 1
-// TiB, and one attachment of a node.
+// A front that starts finds 205 volumes on three pages. It reports the bytes that they take of a
+// pool of 1 TiB, and one attachment of a node.
 func TestMetricsOfListings(t *testing.T) {
 	t.Parallel()
 	const volumes = 205

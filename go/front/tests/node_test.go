@@ -25,7 +25,7 @@ import (
 
 const nodeService = "/csi.v1.Node/"
 
-// respond answers a call of a node plugin.
+// respond is a function that answers a call of a node plugin.
 type respond func(ctx context.Context, path string, message []byte) ([]byte, error)
 
 // nodePlugin plays a node plugin. It answers each method over gRPC, and records its calls.
@@ -88,7 +88,8 @@ func (n *nodePlugin) called(t *testing.T, count int) {
 	processes.GoesOn(t, "calls at the node plugin", count, func() int { return len(n.seen()) })
 }
 
-// replies answers each call with a body, or refuses it.
+// replies returns a function that gives each call the same answer: the body of want, or its code
+// and text.
 func replies(t *testing.T, want answer) respond {
 	t.Helper()
 	body := fromHex(t, want.body)
@@ -164,7 +165,7 @@ func TestDetailsOfANodeCall(t *testing.T) {
 	}
 }
 
-// The service of a call decides whether csid or the node plugin answers it.
+// The service in the path of a call decides if csid or the node plugin answers the call.
 func TestWhoAnswersACall(t *testing.T) {
 	t.Parallel()
 	const ofCsid, ofNode = "0a0463736964", "0a046e6f6465"
@@ -253,7 +254,8 @@ func TestNodeCallThatIsGivenUp(t *testing.T) {
 	}
 }
 
-// isAway makes a call that does not reach the node plugin, and checks that it is refused at once.
+// isAway makes a call of the Node service while the node plugin is away, and checks that it is
+// refused at once.
 func isAway(t *testing.T, front *client) {
 	t.Helper()
 	begin := time.Now()
@@ -302,7 +304,7 @@ func TestNodePluginThatEndsInACall(t *testing.T) {
 	next.sees(t)
 }
 
-// mute returns the path of a socket on which no call is answered.
+// mute returns the path of a listening socket whose connections are never accepted.
 func mute(t *testing.T) string {
 	t.Helper()
 	socket := nodeSocket(t)
@@ -350,7 +352,7 @@ func TestNodePluginThatHangs(t *testing.T) {
 }
 
 // At most 64 calls run at the node plugin. One more is refused at once. Calls of csid and Probe do
-// not wait for them, and lose no room to them.
+// not wait for these calls, and the messages of these calls take no room from theirs.
 func TestTooManyNodeCalls(t *testing.T) {
 	t.Parallel()
 	const most = 64
@@ -396,8 +398,8 @@ func TestNodeMessagesThatAreTooLong(t *testing.T) {
 		refused(codes.ResourceExhausted, "grpc: received message larger than max (4194305 vs. 4194304)"))
 }
 
-// Probe has the answer of csid. If csid is ready and the node plugin is not, it has the answer of
-// the node plugin.
+// Probe has the answer of csid. If csid is ready and the node plugin is not, Probe has the answer
+// of the node plugin.
 func TestProbeOfBoth(t *testing.T) {
 	t.Parallel()
 	const notReady, nothing, other = "0a020800", "", "0a020801 1001"
@@ -527,7 +529,7 @@ func TestMetricsOfNodeCalls(t *testing.T) {
 }
 
 // A front with --standby and --node serves the Node service from its start, even if csid does not
-// serve. It does not end when csid is silent.
+// serve. Such a front does not end when csid is silent.
 func TestNodeWhileTheFrontStandsBy(t *testing.T) {
 	t.Parallel()
 	path := filepath.Join(processes.Folder(t), "csid.sock")
@@ -569,7 +571,8 @@ func TestNodeWhileTheFrontStandsBy(t *testing.T) {
 	}
 }
 
-// A call that runs at the node plugin may go on for the grace when the front gets a signal to end.
+// When the front gets a signal to end, a call that runs at the node plugin may go on for the time
+// of --grace.
 func TestNodeCallHasTheGrace(t *testing.T) {
 	t.Parallel()
 	let, came := make(chan struct{}), make(chan answer, 1)

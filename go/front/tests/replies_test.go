@@ -48,7 +48,8 @@ func TestEveryReplyComesBack(t *testing.T) {
 }
 
 // After status 13 the next call has a new connection, since csid makes no more changes over the old
-// one. With three texts of status 13 the outcome is open, so the answer is UNAVAILABLE.
+// one. Three texts of status 13 become UNAVAILABLE, so that the caller repeats the call. Other
+// texts stay INTERNAL.
 func TestRefusedChange(t *testing.T) {
 	t.Parallel()
 	rows := []struct {
@@ -134,7 +135,7 @@ func TestConnectionThatBreaks(t *testing.T) {
 	eachLosesOneCall(t, rows, true)
 }
 
-// If csid closes the connection instead of a reply, the error says so, even if csid read nothing of
+// If csid closes the connection without a reply, the error says so, even if csid read nothing of
 // the call.
 func TestUnansweredCall(t *testing.T) {
 	t.Parallel()

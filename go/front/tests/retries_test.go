@@ -21,8 +21,8 @@ max_volumes = 1000
 // oneCall is the path of a call, and its message in hexadecimal digits.
 type oneCall struct{ path, message string }
 
-// lives returns the calls for a number of volumes, in order. Of four volumes, two are deleted at
-// the end, one stays, and one stays published.
+// lives returns the calls for a number of volumes, in the order in which they are made. Of each
+// four volumes, two are deleted at the end, one stays unpublished, and one stays published.
 func lives(volumes int) (calls []oneCall) {
 	text := func(field byte, text string) string { return fmt.Sprintf("%02x%02x%x", field, len(text), text) }
 	const mode1 = "1a060a001a020801"

@@ -34,8 +34,8 @@ func frontAt(t *testing.T, csid, socket string) *processes.Process {
 	return processes.Start(t, socket, exec.Command(processes.FrontProgram(t), "--csid", csid, "--listen", socket))
 }
 
-// refuses waits until a front ends because its socket cannot be made, and checks its status and its
-// one line.
+// refuses waits until a front that cannot start ends, and checks its exit status, and that its only
+// line has part.
 func refuses(t *testing.T, p *processes.Process, status int, part string) {
 	t.Helper()
 	if got := p.Status(t); got != status {
@@ -89,8 +89,8 @@ func TestSocketThatCannotBeMade(t *testing.T) {
 	refuses(t, frontAt(t, "csid.sock", filepath.Join(processes.Folder(t), strings.Repeat("a", 120))), 7, "aaa")
 }
 
-// Several fronts start together where a dead socket is. Exactly one of them gets the socket, and
-// keeps it.
+// Several fronts start together at the path of a socket without a listener. Exactly one of them
+// gets the socket, and keeps it.
 func TestFrontsThatStartTogether(t *testing.T) {
 	t.Parallel()
 	csid, socket := startFake(t), deadSocket(t)
@@ -182,7 +182,7 @@ func TestTermWithoutACall(t *testing.T) {
 }
 
 // A client that sends nothing has no call. So the front ends with status 0, and does not wait for
-// the grace.
+// the time of --grace.
 func TestTermWithAClientThatSaysNothing(t *testing.T) {
 	t.Parallel()
 	process := processes.StartFront(t, startFake(t).socket, "--grace", "1h")
@@ -198,8 +198,8 @@ func TestTermWithAClientThatSaysNothing(t *testing.T) {
 	}
 }
 
-// A call that never ends delays the end of the front by the grace at most, or until a second
-// signal.
+// A call that never ends delays the end of the front for the time of --grace at most, or until a
+// second signal.
 func TestTermWithACallThatNeverEnds(t *testing.T) {
 	t.Parallel()
 	for name, grace := range map[string]string{"grace": "300ms", "second signal": "1h"} {
@@ -268,8 +268,8 @@ func TestHelp(t *testing.T) {
 	}
 }
 
-// Another process that can only read the folder of a socket may lock it. This delays a start by a
-// second at most, and an end not at all.
+// Another process that can only read the folder of a socket may lock the folder. This delays a
+// start by a second at most, and an end not at all.
 func TestFolderThatStaysLocked(t *testing.T) {
 	t.Parallel()
 	socket := filepath.Join(processes.Folder(t), "csi.sock")

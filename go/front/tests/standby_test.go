@@ -14,8 +14,8 @@ import (
 	"./processes"
 )
 
-// standingBy starts a front with --standby for a csid that may start later. At the path of the
-// front's socket there is a dead socket.
+// standingBy starts a front with --standby for a csid that may start later. The path of the front's
+// socket already has a socket without a listener.
 func standingBy(t *testing.T, csid, length string, words ...string) *processes.Process {
 	t.Helper()
 	socket := deadSocket(t)
@@ -31,7 +31,7 @@ func says(t *testing.T, p *processes.Process, line string) {
 }
 
 // closings returns steps that close 50 connections without a reply, more than the front makes
-// within a second.
+// before it ends.
 func closings() (all []step) {
 	for len(all) < 50 {
 		all = append(all, step{close: true})
@@ -39,8 +39,8 @@ func closings() (all []step) {
 	return all
 }
 
-// Until csid is ready, the front makes no socket: the file of an earlier one stays. Metrics and
-// health are answered.
+// Until csid is ready, the front makes no socket: the file of an earlier front's socket stays.
+// Metrics and health are answered.
 func TestStandbyWaits(t *testing.T) {
 	t.Parallel()
 	path := filepath.Join(processes.Folder(t), "csid.sock")
@@ -85,7 +85,7 @@ func TestStandbyWaits(t *testing.T) {
 	wantsSeries(t, series(t, monitor), "csid_front_standing_by", map[string]string{"csid_front_standing_by": "0"})
 }
 
-// A front that waits ends at a signal, and has not touched the socket.
+// A front that waits for csid ends at a signal, and leaves the file of an earlier front's socket.
 func TestTermWhileItWaits(t *testing.T) {
 	t.Parallel()
 	for name, csid := range map[string]*fake{"closed": {closes: true}, "mute": {steps: []step{{mute: true}}}} {
@@ -173,7 +173,7 @@ func TestStandbyEnds(t *testing.T) {
 	}
 }
 
-// A call that runs when the front ends may go on for the grace. No further call is taken.
+// A call that runs when the front ends may go on for the time of --grace. No further call is taken.
 func TestStandbyEndsDuringACall(t *testing.T) {
 	t.Parallel()
 	for name, grace := range map[string]string{"answered": "1m", "cut off": "200ms"} {
@@ -212,7 +212,7 @@ func TestStandbyEndsDuringACall(t *testing.T) {
 	}
 }
 
-// Without calls, the front sends a Probe every third of the limit, and their replies keep it
+// Without calls, the front sends a Probe every third of the limit, and the replies keep the front
 // running.
 func TestStandbyWithoutCalls(t *testing.T) {
 	t.Parallel()

@@ -29,15 +29,16 @@ type Member struct {
 	Current *processes.Process
 }
 
-// Cluster is a cluster of etcd.
+// Cluster is a cluster of etcd: its members, and what etcdctl needs to reach them.
 type Cluster struct {
 	Members []*Member
 	scheme  string
-	// Args are the first arguments of each etcdctl, such as a user.
+	// Args are arguments of each etcdctl, before its command, such as --user.
 	Args []string
 }
 
-// Settings are the optional settings of a cluster.
+// Settings add arguments to all members of a cluster, and TLS to its clients. The zero value adds
+// neither.
 type Settings struct {
 	// Args are further arguments of each member.
 	Args []string
@@ -82,7 +83,7 @@ func New(t *testing.T, count int, settings Settings) *Cluster {
 	return c
 }
 
-// FreePorts returns unused addresses of loopback.
+// FreePorts returns count unused addresses of loopback, as HOST:PORT.
 func FreePorts(t *testing.T, count int) (addresses []string) {
 	t.Helper()
 	for i := 0; i < count; i++ {
@@ -96,7 +97,7 @@ func FreePorts(t *testing.T, count int) (addresses []string) {
 	return addresses
 }
 
-// StartAll starts all members.
+// StartAll starts all members, and does not wait until they answer.
 func (c *Cluster) StartAll(t *testing.T) {
 	t.Helper()
 	for _, m := range c.Members {
@@ -104,7 +105,8 @@ func (c *Cluster) StartAll(t *testing.T) {
 	}
 }
 
-// Start starts a member on its data.
+// Start starts a member with the data of its earlier run, if there was one. It does not wait until
+// the member answers.
 func (m *Member) Start(t *testing.T) {
 	t.Helper()
 	command := exec.Command("etcd", m.args...)
@@ -115,7 +117,8 @@ func (m *Member) Start(t *testing.T) {
 // Kill sends SIGKILL to a member, and waits for its end.
 func (m *Member) Kill() { m.Current.Kill() }
 
-// Restore replaces the data of a stopped member by a snapshot. The cluster must have one member.
+// Restore replaces the data of a stopped member by the data of a snapshot file. The cluster must
+// have one member.
 func (m *Member) Restore(t *testing.T, snapshot string) {
 	t.Helper()
 	if err := os.RemoveAll(filepath.Join(m.folder, "data")); err != nil {
@@ -161,7 +164,7 @@ func (c *Cluster) WaitReady(t *testing.T) {
 	})
 }
 
-// Client returns a client of the cluster, without TLS. The client is closed at the end of the test.
+// Client returns a client of a cluster without TLS. The client is closed at the end of the test.
 func (c *Cluster) Client(t *testing.T) *clientv3.Client {
 	t.Helper()
 	client, err := clientv3.New(clientv3.Config{Endpoints: strings.Split(c.Endpoints(), ","),
@@ -174,7 +177,7 @@ func (c *Cluster) Client(t *testing.T) *clientv3.Client {
 	return client
 }
 
-// Ctl runs etcdctl and returns its standard output.
+// Ctl runs etcdctl and returns its standard output. If etcdctl fails, the test fails.
 func (c *Cluster) Ctl(t *testing.T, args ...string) string {
 	t.Helper()
 	return run(t, append(append([]string{"--endpoints", c.Endpoints()}, c.Args...), args...))
@@ -186,7 +189,7 @@ func (c *Cluster) Try(args ...string) error {
 	return err
 }
 
-// Type runs etcdctl with text on its standard input.
+// Type runs etcdctl with text on its standard input, for example a password.
 func (c *Cluster) Type(t *testing.T, text string, args ...string) {
 	t.Helper()
 	if _, err := ctl(append(append([]string{"--endpoints", c.Endpoints()}, c.Args...), args...), text); err != nil {
@@ -214,7 +217,7 @@ func ctl(args []string, stdin string) (string, error) {
 	return stdout.String(), nil
 }
 
-// Leader returns the member that leads.
+// Leader waits until the cluster has a leader, and returns this member.
 func (c *Cluster) Leader(t *testing.T) *Member {
 	t.Helper()
 	client := c.Client(t)

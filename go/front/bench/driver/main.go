@@ -1,7 +1,7 @@
 //go:build cgo
 
-// driver is a CSI controller as it is usually written in Go: grpc-go with generated messages, over
-// a file of SQLite by database/sql. It answers the calls that bench/front makes. Like csid, it
+// driver is a CSI controller of the usual kind in Go: grpc-go with generated messages, over a file
+// of SQLite by database/sql. It answers the calls that bench/front makes. Like csid, it
 // synchronises a change to disk before it answers OK.
 //
 // usage: driver SOCKET FILE
@@ -44,7 +44,7 @@ CREATE TABLE IF NOT EXISTS attachments (number INTEGER NOT NULL, node TEXT NOT N
 INSERT OR IGNORE INTO pools VALUES ('p1', 1099511627776);
 `
 
-// driver answers calls over the tables, one change after the other.
+// driver answers calls from the tables of a file. The mutex lets one transaction run at a time.
 type driver struct {
 	mutex    sync.Mutex
 	database *sql.DB
@@ -88,7 +88,8 @@ func open(path string) (*driver, error) {
 	return d, nil
 }
 
-// change makes a change in a transaction, and rolls the transaction back if the change fails.
+// change runs make in a transaction. If make fails, the transaction is rolled back. An error
+// without a status becomes INTERNAL.
 func (d *driver) change(make func(tx *sql.Tx) error) error {
 	d.mutex.Lock()
 	defer d.mutex.Unlock()
@@ -135,7 +136,8 @@ func (d *driver) CreateVolume(_ context.Context, asked *csi.CreateVolumeRequest)
 	return &csi.CreateVolumeResponse{Volume: volume(number, bytes)}, nil
 }
 
-// create makes a volume, or finds the volume with this name.
+// create makes a volume, or finds the volume with this name, and returns its number. It fails if
+// the volume with this name has another size.
 func (d *driver) create(tx *sql.Tx, name string, bytes int64) (number int64, err error) {
 	var has int64
 	err = tx.Stmt(d.volumeOfName).QueryRow(name).Scan(&number, &has)

@@ -40,7 +40,7 @@ func NewFullPipe(t *testing.T) *FullPipe {
 	return p
 }
 
-// Read begins to read the pipe in the background, and waits until it has read a text.
+// Read begins to read the pipe in the background, and waits until this text was read.
 func (p *FullPipe) Read(t *testing.T, text string) {
 	t.Helper()
 	go io.Copy(&p.log, p.in)

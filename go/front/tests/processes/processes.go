@@ -20,11 +20,11 @@ import (
 // With JOURNAL_STREAM set, the lines of a program have no time, as if they went to the journal.
 func init() { os.Setenv("JOURNAL_STREAM", "8:1") }
 
-// Patience is how long anything may take before a test gives it up.
+// Patience is the time that anything may take before a test gives it up.
 const Patience = time.Minute
 
 // pathOf returns the path in an environment variable. If the variable is not set, it returns the
-// path otherwise, below the top of the repository.
+// path `otherwise`, which begins at the top of the repository.
 func pathOf(variable, otherwise string) string {
 	if path := os.Getenv(variable); path != "" {
 		return path
@@ -78,8 +78,8 @@ type Process struct {
 	Ended  chan struct{}
 }
 
-// Start starts a program that will answer on a socket. Its Log stays empty if the command has
-// another standard error.
+// Start starts a program that will answer on a socket; an empty path means no socket. Its Log stays
+// empty if the command already has a standard error.
 func Start(t *testing.T, socket string, command *exec.Cmd) *Process {
 	t.Helper()
 	p := &Process{Cmd: command, Socket: socket, Log: &ErrorLog{}, Ended: make(chan struct{})}
@@ -115,7 +115,8 @@ func (p *Process) Status(t *testing.T) int {
 	}
 }
 
-// Answers waits until somebody answers on the socket of the process.
+// Answers waits until a program listens on the socket of the process. If the process ends before,
+// it fails the test.
 func (p *Process) Answers(t *testing.T) *Process {
 	t.Helper()
 	Eventually(t, "an answer on "+p.Socket, func() bool {
@@ -129,7 +130,7 @@ func (p *Process) Answers(t *testing.T) *Process {
 	return p
 }
 
-// IsAnswered reports whether somebody listens on a socket.
+// IsAnswered reports whether a program listens on a socket.
 func IsAnswered(socket string) bool {
 	conn, err := net.Dial("unix", socket)
 	if err == nil {
@@ -138,7 +139,8 @@ func IsAnswered(socket string) bool {
 	return err == nil
 }
 
-// Eventually waits until is returns true. It fails the test after Patience, with a line about what.
+// Eventually waits until is returns true. After Patience it fails the test, with a line that has
+// the text what.
 func Eventually(t *testing.T, what string, is func() bool) {
 	t.Helper()
 	for end := time.Now().Add(Patience); time.Now().Before(end); time.Sleep(2 * time.Millisecond) {
@@ -267,7 +269,7 @@ func (s *Server) Kill(t *testing.T) {
 	}
 }
 
-// StartCsid starts a csid under the sample configuration.
+// StartCsid starts a csid under the sample configuration, and waits until it answers.
 func StartCsid(t *testing.T) *Server {
 	t.Helper()
 	return NewServer(t, "").Start(t)

@@ -13,7 +13,8 @@ func startAttacher(t *testing.T, socket string) *attacher {
 	return &attacher{startSidecar(t, socket)}
 }
 
-// attach publishes a volume to a node, with the context that its persistent volume keeps.
+// attach publishes a volume to a node, with the context that its persistent volume keeps. It
+// returns the context of the reply.
 func (a *attacher) attach(id, node string, context map[string]string) (map[string]string, error) {
 	got := &publishVolumeResponse{}
 	request := &publishVolumeRequest{VolumeID: id, NodeID: node, VolumeCapability: a.volumeCapability(),

@@ -154,8 +154,8 @@ func TestKills(t *testing.T) {
 	wantsListed(t, k.attacher, k.nodes)
 }
 
-// Two provisioners both act as the leader. They create one volume for each claim, and delete it
-// together.
+// Two provisioners both act as the leader. They create one volume for each claim, and then both
+// delete all volumes.
 func TestTwoProvisioners(t *testing.T) {
 	t.Parallel()
 	const count = 100
@@ -199,7 +199,7 @@ func TestTwoProvisioners(t *testing.T) {
 }
 
 // cancelEach begins a create for each claim, and cancels it within a few milliseconds. It returns
-// how many calls were answered before that.
+// how many calls were answered before they were cancelled.
 func (k *cluster) cancelEach(t *testing.T, claims []claim, random *rand.Rand) (answered int) {
 	t.Helper()
 	for i, c := range claims {

@@ -62,8 +62,9 @@ func wantsListed(t *testing.T, a *attacher, want map[string]string) {
 	}
 }
 
-// A sidecar that starts before csid ends at once, as csi-lib-utils does, and starts well after csid
-// is there. The capabilities that it asks for at its start decide which calls it makes.
+// While csid is not there, a sidecar ends at its start, as csi-lib-utils does. Once csid is there,
+// the sidecar starts well. The capabilities that it asks for at its start decide which calls it
+// makes.
 func TestStart(t *testing.T) {
 	t.Parallel()
 	csid := processes.NewServer(t, twoZones)
@@ -88,8 +89,8 @@ func TestStart(t *testing.T) {
 	}
 }
 
-// The life of a claim's volume: it is created in the zone of its pod, attached, detached and
-// deleted. Each call is made twice, since sidecars repeat calls after a restart.
+// A claim's volume is created in the zone of its pod, attached, detached and deleted. Each call is
+// made twice, since sidecars repeat calls after a restart.
 func TestLifeOfAClaim(t *testing.T) {
 	t.Parallel()
 	_, socket := startDriver(t, twoZones)
@@ -133,8 +134,8 @@ func twice(t *testing.T, what string, does func() error) {
 	}
 }
 
-// An attached volume is not deleted, and not attached to another node. Both errors are final, and
-// the attachment stays.
+// An attached volume is not deleted, and not attached to another or to an unknown node. No volume
+// above the greatest size is made. Sidecars do not repeat these calls, and the attachment stays.
 func TestFinalErrors(t *testing.T) {
 	t.Parallel()
 	_, socket := startDriver(t, twoZones)

@@ -1,7 +1,7 @@
 package sidecars
 
 // The messages of the calls below, with the field numbers of the specification's csi.proto. Debian
-// packages no generated code of it.
+// has no package with generated code of csi.proto.
 
 // empty is a message without fields.
 type empty struct{}

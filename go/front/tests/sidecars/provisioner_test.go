@@ -28,7 +28,7 @@ type claim struct {
 	bytes int64
 	// The zone of the node that was selected for its pod.
 	zone string
-	// Whether only this zone is allowed, as with --strict-topology of csi-provisioner.
+	// True if only this zone is allowed, as with --strict-topology of csi-provisioner.
 	strict bool
 }
 
@@ -47,8 +47,9 @@ func newUID(random *rand.Rand) string {
 	return fmt.Sprintf("%x-%x-%x-%x-%x", b[:4], b[4:6], b[6:8], b[8:10], b[10:])
 }
 
-// volumeCapability returns the capability for ReadWriteOnce with a file system. Its mode depends on
-// whether the driver knows SINGLE_NODE_MULTI_WRITER.
+// volumeCapability returns the capability for ReadWriteOnce with a file system. If the driver has
+// the capability SINGLE_NODE_MULTI_WRITER, its mode is SINGLE_NODE_MULTI_WRITER, and otherwise
+// SINGLE_NODE_WRITER.
 func (s *sidecar) volumeCapability() *volumeCapability {
 	mode := int32(modeSingleNodeWriter)
 	if s.controller[singleNodeMultiWriter] {
@@ -136,7 +137,7 @@ func (p *provisioner) persistentContext(v *volume) map[string]string {
 	return all
 }
 
-// capacity asks for the free bytes of a zone.
+// capacity asks for the free bytes of a zone, with GetCapacity.
 func (p *provisioner) capacity(zone string) (*getCapacityResponse, error) {
 	got := &getCapacityResponse{}
 	request := &getCapacityRequest{Parameters: map[string]string{"tier": "gold"},

@@ -41,7 +41,7 @@ var (
 	longestPause = 320 * time.Millisecond * slowness
 	restartPause = 100 * time.Millisecond * slowness
 
-	// How long a sidecar may take for one call, with all repeats, before the test fails.
+	// The time that a sidecar may take for one call, with all repeats, before the test fails.
 	patience = processes.Patience * slowness
 )
 
@@ -102,7 +102,8 @@ func startSidecar(t *testing.T, socket string) *sidecar {
 	}
 }
 
-// comeUp runs the start of a sidecar. It returns the error with which the sidecar ends.
+// comeUp runs the start of a sidecar. If the start fails, it returns the error, with which the
+// sidecar ends.
 func comeUp(t *testing.T, socket string) (*sidecar, error) {
 	t.Helper()
 	conn, err := grpc.Dial("unix:"+socket, grpc.WithInsecure(), grpc.WithBlock(), grpc.WithTimeout(patience))
@@ -119,7 +120,7 @@ func comeUp(t *testing.T, socket string) (*sidecar, error) {
 	return s, nil
 }
 
-// ask makes one call with a deadline.
+// ask makes one call, whose deadline is length from now.
 func (s *sidecar) ask(length time.Duration, path string, request, response interface{}) error {
 	ctx, cancel := context.WithTimeout(context.Background(), length)
 	defer cancel()
@@ -176,8 +177,8 @@ func (s *sidecar) capabilities(path string) (map[int32]bool, error) {
 	return set, nil
 }
 
-// isFinal reports whether a call with this error has ended in the driver too. After other errors
-// the call may still run there.
+// isFinal reports whether the driver has ended a call with this error for good. After any other
+// error the call may still run in the driver.
 func isFinal(err error) bool {
 	state, is := status.FromError(err)
 	if !is {

@@ -43,9 +43,9 @@ func (p *provisioner) poll(t *testing.T, pool int64, over <-chan struct{}) (poll
 	}
 }
 
-// GetCapacity while volumes are created and deleted. In zone b the callers have volumes of 2, 4, 2
-// and 4 MiB, which do not all fit at once. A refused create is repeated until other volumes were
-// deleted. At the end each zone has four volumes of 1 MiB.
+// GetCapacity never reports impossible free bytes while volumes are created and deleted. In zone b
+// the callers have volumes of 2, 4, 2 and 4 MiB, which do not all fit at once. A refused create is
+// repeated until other volumes were deleted. At the end each zone has four volumes of 1 MiB.
 func TestCapacity(t *testing.T) {
 	t.Parallel()
 	const count, callers, pool = 96, 8, 8 * mebibyte
@@ -118,9 +118,9 @@ func (k *cluster) reconcile(t *testing.T, pageLength int32, others map[string]st
 	}
 }
 
-// csi-attacher compares its attachments with this list, while other volumes are attached and
-// detached. No attachment that exists throughout is missing, and no attachment is listed that never
-// existed.
+// csi-attacher compares its attachments with the replies to ListVolumes, while other volumes are
+// attached and detached. No attachment that exists throughout is missing, and no attachment is
+// listed that never existed.
 func TestReconciliation(t *testing.T) {
 	t.Parallel()
 	const standing, churning, rounds = 20, 4, 20

@@ -7,7 +7,7 @@ import (
 	"testing"
 )
 
-// Only a regular file is replaced. Other files stay unchanged and are not opened.
+// Create replaces a regular file. Anything else with its name stays unchanged and is not opened.
 func TestCreate(t *testing.T) {
 	cases := []struct {
 		name   string
@@ -55,7 +55,7 @@ func TestCreate(t *testing.T) {
 	}
 }
 
-// wantsNew writes to a file, and checks that it was empty and only its user may use it.
+// wantsNew writes "new" to a file, and checks that the file then has no other text, and mode 0600.
 func wantsNew(t *testing.T, file *os.File, path string) {
 	t.Helper()
 	_, err := file.WriteString("new")

@@ -32,10 +32,11 @@ type Reply struct {
 // of the reply, such as "text length".
 type Malformed string
 
-// Error returns the line about the part that breaks the rule.
+// Error returns "malformed reply: bad " and the part that breaks the rule.
 func (part Malformed) Error() string { return "malformed reply: bad " + string(part) }
 
-// IsPath reports whether a frame can have the path.
+// IsPath reports whether a frame can have the path: it has 1 to MaxPathBytes bytes, each from 0x21
+// to 0x7E.
 func IsPath(path string) bool {
 	for i := 0; i < len(path); i++ {
 		if path[i] < 0x21 || path[i] > 0x7e {
@@ -48,7 +49,8 @@ func IsPath(path string) bool {
 // RequestHeadBytes returns the number of bytes that AppendRequestHead appends.
 func RequestHeadBytes(path string) int { return 2 + len(path) + 1 + 4 }
 
-// AppendRequestHead appends the frame of a call up to its message.
+// AppendRequestHead appends the frame of a call up to its message. The caller appends the message,
+// which must have messageBytes bytes.
 func AppendRequestHead(frame []byte, path string, messageBytes int) []byte {
 	frame = append(frame, byte(len(path)>>8), byte(len(path)))
 	frame = append(frame, path...)
@@ -56,7 +58,8 @@ func AppendRequestHead(frame []byte, path string, messageBytes int) []byte {
 	return append(frame, byte(messageBytes>>24), byte(messageBytes>>16), byte(messageBytes>>8), byte(messageBytes))
 }
 
-// isStatus reports whether a reply can have the status.
+// isStatus reports whether the code is one of the ten that docs/PROTOCOL.md allows as the status of
+// a reply.
 func isStatus(code codes.Code) bool {
 	switch code {
 	case codes.OK, codes.InvalidArgument, codes.NotFound, codes.AlreadyExists, codes.ResourceExhausted,
@@ -77,16 +80,19 @@ type Replies struct {
 	read int
 }
 
-// NewReplies returns the replies in a stream.
+// NewReplies returns a reader of the replies in a stream.
 func NewReplies(in io.Reader) *Replies {
-	// The reader copies bodies that are longer than this buffer directly.
+	// This buffer can be small: bufio reads the rest of a longer body from the stream directly into
+	// the body.
 	return &Replies{in: bufio.NewReaderSize(in, 4<<10)}
 }
 
-// Buffered returns the number of received bytes after the last reply that was read.
+// Buffered returns the number of bytes that were received after the last reply that Next returned.
+// Call it only between two replies.
 func (r *Replies) Buffered() int { return r.in.Buffered() }
 
-// Await waits for the first byte of the next reply. Call it only between two replies.
+// Await waits for the first byte of the next reply, and leaves it unread. Call it only between two
+// replies.
 func (r *Replies) Await() error {
 	_, err := r.in.Peek(1)
 	return err
@@ -113,7 +119,7 @@ func (r *Replies) Next() (Reply, error) {
 }
 
 // readHead reads a reply up to its body. It takes no byte out of the buffer before all have
-// arrived.
+// arrived, so that it can be called again after a deadline.
 func (r *Replies) readHead() error {
 	code, err := r.peekStatus()
 	if err != nil {
@@ -131,7 +137,7 @@ func (r *Replies) readHead() error {
 	if err != nil {
 		return err
 	}
-	// The text is a part of the buffer. Discard leaves it unchanged.
+	// The text is a part of the buffer, so it is copied.
 	r.code, r.text, r.body, r.read = code, string(text), make([]byte, bodyBytes), 0
 	_, err = r.in.Discard(1 + 2 + textBytes + 1 + 4)
 	return err
@@ -209,8 +215,9 @@ func inside(err error) error {
 	return err
 }
 
-// IsClosing reports whether the peer closed the connection. The error is io.EOF if the peer had
-// read everything, and otherwise a reset or a broken pipe.
+// IsClosing reports whether the error of a read or a write means that the peer closed the
+// connection. A read fails with io.EOF, or with a reset if the peer left bytes unread. A write
+// fails with a broken pipe or a reset.
 func IsClosing(err error) bool {
 	return err == io.EOF || errors.Is(err, syscall.ECONNRESET) || errors.Is(err, syscall.EPIPE)
 }

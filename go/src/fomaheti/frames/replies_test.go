@@ -14,7 +14,8 @@ import (
 
 var fromHex = fixtures.FromHex
 
-// The example of docs/PROTOCOL.md, and the greatest length.
+// AppendRequestHead writes the head of the example of docs/PROTOCOL.md, and heads for longer
+// messages, up to the longest.
 func TestRequestHead(t *testing.T) {
 	rows := []struct {
 		path   string
@@ -35,7 +36,8 @@ func TestRequestHead(t *testing.T) {
 	}
 }
 
-// Await takes no byte of the reply, and returns the end of a connection unchanged.
+// Await leaves the reply unread, also if it is called twice. At the end of the stream it returns
+// io.EOF.
 func TestAwait(t *testing.T) {
 	replies := NewReplies(bytes.NewReader(fromHex(t, "05 0000 00 00000000")))
 	for i := 0; i < 2; i++ {
@@ -86,8 +88,8 @@ func TestGoodReply(t *testing.T) {
 	}
 }
 
-// Each fault is reported although nothing follows: otherwise a csid that stays silent after it
-// would delay the call.
+// Each fault is reported although no byte follows it: otherwise a csid that is silent after the
+// fault would delay the call.
 func TestMalformedReply(t *testing.T) {
 	rows := []struct{ bytes, want string }{
 		{"01", "status 1"}, {"02", "status 2"}, {"04", "status 4"}, {"07", "status 7"}, {"0e", "status 14"},
@@ -107,7 +109,8 @@ func TestMalformedReply(t *testing.T) {
 	}
 }
 
-// An end inside a reply is reported. Only an end before its first byte is clean.
+// If the stream ends inside a reply, the error is io.ErrUnexpectedEOF. Before the first byte of a
+// reply it is io.EOF.
 func TestReplyCutShort(t *testing.T) {
 	for _, whole := range []string{"00 0000 00 00000004 0a020801", "05 0002 4142 00 00000000"} {
 		all := fromHex(t, whole)
@@ -123,7 +126,8 @@ func TestReplyCutShort(t *testing.T) {
 	}
 }
 
-// interrupted returns one byte per read, and before each of them an expired deadline.
+// interrupted is a reader that returns one byte per read, and an expired deadline before each byte
+// and before the end.
 type interrupted struct {
 	bytes []byte
 	isDue bool
@@ -140,8 +144,8 @@ func (r *interrupted) Read(into []byte) (int, error) {
 	return 1, nil
 }
 
-// A reply is read completely although a deadline interrupts it again and again. The next reply
-// follows.
+// A reply is read completely although a deadline interrupts Next before each byte. Then the next
+// reply is read.
 func TestInterruptedReply(t *testing.T) {
 	const whole = "00 0000 00 00000004 0a020801 05 0002 4142 00 00000000 00 0000 00 00000000"
 	replies := NewReplies(&interrupted{bytes: fromHex(t, whole)})
@@ -167,7 +171,8 @@ func TestInterruptedReply(t *testing.T) {
 	}
 }
 
-// The greatest reply is read, even if it arrives together with the next one.
+// A reply with the longest text and a reply with the longest body are read, even if both arrive
+// together.
 func TestGreatestReply(t *testing.T) {
 	body := bytes.Repeat([]byte{7}, MaxBodyBytes)
 	refusal := Reply{codes.Internal, strings.Repeat("a", MaxTextBytes), nil}

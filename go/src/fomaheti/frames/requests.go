@@ -7,34 +7,35 @@ import (
 	"io"
 )
 
-// Request is one call.
+// Request is one call: the path of its method, and its message as bytes.
 type Request struct {
 	Path    string
 	Message []byte
 }
 
-// Fault is the first fault in a stream of calls. Place is its offset in bytes. No calls follow a
-// fault.
+// Fault is the first fault in a stream of calls. Place is its offset from the start of the stream,
+// in bytes. Nothing after a fault can be read as a call.
 type Fault struct {
 	Reason string
 	Place  int64
 }
 
-// Error returns the reason and the place as a reply has them.
+// Error returns the text of the reply to a fault, such as "bad flag at byte 12".
 func (f Fault) Error() string { return fmt.Sprintf("%s at byte %d", f.Reason, f.Place) }
 
 // Requests reads a stream of calls.
 type Requests struct {
 	in *bufio.Reader
-	// The number of bytes that were read.
+	// The number of bytes of the stream that take and path have read.
 	read int64
 }
 
-// NewRequests returns the calls in a stream.
+// NewRequests returns a reader of the calls in a stream.
 func NewRequests(in io.Reader) *Requests { return &Requests{in: bufio.NewReader(in)} }
 
-// Next reads the next call. It returns io.EOF if the stream ends after a complete call. It returns
-// a Fault as soon as the fault arrives, without another read.
+// Next reads the next call. It returns io.EOF if the stream ends before the first byte of a call,
+// and a Fault if the stream ends inside a call. It returns any Fault as soon as the fault arrives,
+// without another read. Other errors of the stream are returned unchanged.
 func (r *Requests) Next() (Request, error) {
 	begin := r.read
 	length, err := r.take(2)
@@ -94,7 +95,7 @@ func (r *Requests) message() ([]byte, error) {
 	return r.take(int(size))
 }
 
-// take reads size bytes. It also counts the bytes before an end.
+// take reads size bytes. If the stream ends before, it counts the bytes that came.
 func (r *Requests) take(size int) ([]byte, error) {
 	taken := make([]byte, size)
 	length, err := io.ReadFull(r.in, taken)
@@ -102,7 +103,8 @@ func (r *Requests) take(size int) ([]byte, error) {
 	return taken, err
 }
 
-// within turns the error of a read inside a call into the error of Next: an end is a fault there.
+// within returns the error of Next for an error of a read inside a call. An end of the stream is a
+// Fault there. Other errors are unchanged.
 func (r *Requests) within(err error) error {
 	if err == io.EOF || err == io.ErrUnexpectedEOF {
 		return Fault{"end of input", r.read}
@@ -110,10 +112,11 @@ func (r *Requests) within(err error) error {
 	return err
 }
 
-// isShown reports whether a text may have the character.
+// isShown reports whether the text of a reply may have the character: printable ASCII or a space.
 func isShown(character byte) bool { return 0x20 <= character && character <= 0x7e }
 
-// Append appends a reply as a frame. Use Text to make a text that is allowed in a frame.
+// Append appends a reply as a frame. It checks nothing: use Text to make a text that is allowed in
+// a frame.
 func (answer Reply) Append(frame []byte) []byte {
 	frame = append(frame, byte(answer.Code), byte(len(answer.Text)>>8), byte(len(answer.Text)))
 	frame = append(frame, answer.Text...)
@@ -123,8 +126,8 @@ func (answer Reply) Append(frame []byte) []byte {
 	return append(frame, answer.Body...)
 }
 
-// Text makes a text that a reply may have. It replaces bytes outside 0x20 to 0x7E by their
-// hexadecimal digits, and cuts a text that is too long.
+// Text makes a text that a reply may have. It replaces each byte outside 0x20 to 0x7E by \x and two
+// hexadecimal digits, and cuts the result after MaxTextBytes bytes.
 func Text(said string) string {
 	var shown []byte
 	for i := 0; i < len(said); i++ {

@@ -9,7 +9,8 @@ import (
 	"google.golang.org/grpc/codes"
 )
 
-// Calls are read from pieces of any size. An end after a complete call is clean.
+// Calls are read from one piece, and byte by byte. If the stream ends after a complete call, Next
+// returns io.EOF.
 func TestGoodRequests(t *testing.T) {
 	stream := fromHex(t, "0016 2f6373692e76312e4964656e746974792f50726f6265 00 00000000 0001 21 00 00000002 0a00")
 	for _, in := range []io.Reader{bytes.NewReader(stream), slowReader{bytes.NewReader(stream)}} {
@@ -26,7 +27,8 @@ func TestGoodRequests(t *testing.T) {
 	}
 }
 
-// The greatest parts of a call are read. The place of a later fault counts all their bytes.
+// A call with the longest path and the longest message is read. The place of a fault after it
+// counts all bytes of the call.
 func TestGreatestRequest(t *testing.T) {
 	want := Request{strings.Repeat("~", 128), make([]byte, 1048576)}
 	frame := append(AppendRequestHead(nil, want.Path, len(want.Message)), want.Message...)
@@ -45,8 +47,8 @@ type slowReader struct{ io.Reader }
 
 func (r slowReader) Read(into []byte) (int, error) { return r.Reader.Read(into[:1]) }
 
-// Each fault has the place of docs/PROTOCOL.md, even after a call, and is reported although nothing
-// follows.
+// Each fault has the place that docs/PROTOCOL.md names, also after a complete call, and is reported
+// although no byte follows it.
 func TestFaults(t *testing.T) {
 	const call = "0001 21 00 00000000"
 	rows := []struct{ bytes, want string }{
@@ -82,7 +84,8 @@ func TestEndOfInput(t *testing.T) {
 	}
 }
 
-// A reply that was written is read back.
+// Append writes replies as docs/PROTOCOL.md wants them, up to the longest text and the longest
+// body.
 func TestReplyWritten(t *testing.T) {
 	rows := []struct {
 		reply Reply

@@ -1,5 +1,5 @@
 // Package logqueue writes log lines in the background, so that the program never waits for the
-// reader of standard error. Standard error may be a pipe without a reader.
+// reader of standard error. Standard error may be a pipe whose reader hangs or has ended.
 package logqueue
 
 import (
@@ -12,7 +12,7 @@ import (
 // Room is the number of lines that can wait to be written.
 const Room = 1024
 
-// Report returns the line that reports dropped lines on standard error.
+// Report returns the text of the line that reports dropped lines, without a newline.
 func Report(count uint64) string {
 	return fmt.Sprintf("lines dropped, since standard error did not take them: %d", count)
 }
@@ -22,7 +22,7 @@ func Report(count uint64) string {
 // their place.
 type Queue struct {
 	out io.Writer
-	// Returns the line that reports dropped lines.
+	// Returns the line that reports this number of dropped lines, with its newline.
 	report func(count uint64) string
 
 	mutex   sync.Mutex
@@ -38,14 +38,15 @@ type Queue struct {
 	ended     chan struct{}
 }
 
-// line is a waiting line, and the number of lines that were dropped just before it.
+// line is a waiting line, and the number of lines that were dropped just before it. text is nil for
+// a report without a line.
 type line struct {
 	text          []byte
 	droppedBefore uint64
 }
 
-// New starts a queue that writes to out. report returns the line, with its newline, for a number of
-// dropped lines.
+// New starts a queue that writes to out. report returns the line that reports this number of
+// dropped lines, with its newline.
 func New(out io.Writer, report func(count uint64) string) *Queue {
 	q := &Queue{out: out, report: report, ended: make(chan struct{})}
 	q.changed = sync.NewCond(&q.mutex)
@@ -53,7 +54,8 @@ func New(out io.Writer, report func(count uint64) string) *Queue {
 	return q
 }
 
-// Write queues a line. It never waits for the writer and never fails.
+// Write queues a line, or drops and counts it if Room lines wait. It never waits for the goroutine
+// that writes, and never returns an error.
 func (q *Queue) Write(text []byte) (int, error) {
 	q.mutex.Lock()
 	defer q.mutex.Unlock()
@@ -76,8 +78,8 @@ func (q *Queue) Dropped() uint64 {
 	return q.dropped
 }
 
-// End waits until all lines are written, or until the limit. Call it once, at the end of the
-// program.
+// End waits until all queued lines are written or dropped, but at most for the time limit. Call it
+// once, at the end of the program.
 func (q *Queue) End(limit time.Duration) {
 	q.mutex.Lock()
 	q.isEnding = true
@@ -89,7 +91,7 @@ func (q *Queue) End(limit time.Duration) {
 	}
 }
 
-// run writes lines until the queue has ended and is empty.
+// run writes lines until End was called and no line waits.
 func (q *Queue) run() {
 	defer close(q.ended)
 	for {
@@ -101,7 +103,8 @@ func (q *Queue) run() {
 	}
 }
 
-// next waits for the next line, or for a report that needs no line.
+// next waits for the next line, or for a report of lines that were dropped after the last line.
+// After End, isThere is false if nothing is left to write.
 func (q *Queue) next() (next line, isThere bool) {
 	q.mutex.Lock()
 	defer q.mutex.Unlock()
@@ -121,7 +124,8 @@ func (q *Queue) next() (next line, isThere bool) {
 
 func (q *Queue) hasReport() bool { return q.unreported > 0 && !q.isFailing }
 
-// write writes a line, after the report of the lines dropped before it.
+// write writes a line, after the report of the lines dropped before it. If the report cannot be
+// written, the line is dropped too.
 func (q *Queue) write(next line) {
 	unreported, dropped := next.droppedBefore, uint64(0)
 	var err error

@@ -16,11 +16,11 @@ const patience = 10 * time.Second
 
 func report(count uint64) string { return fmt.Sprintf("dropped %d\n", count) }
 
-// stuck is a writer that waits in each write for the error that the test sends.
+// stuck is a writer that waits in each write until the test sends its result, an error or nil.
 type stuck struct {
 	mutex sync.Mutex
 	text  strings.Builder
-	// Each write waits for a value, and returns it.
+	// The results of the writes.
 	answers chan error
 	// Receives a value when a write starts.
 	begun chan struct{}
@@ -53,7 +53,7 @@ func eventually(t *testing.T, what string, is func() bool) {
 	}
 }
 
-// promptly checks that act returns at once, whatever the writer does.
+// promptly checks that act does not wait for a stuck writer: it returns within patience.
 func promptly(t *testing.T, act func()) {
 	t.Helper()
 	done := make(chan struct{})
@@ -68,8 +68,8 @@ func promptly(t *testing.T, act func()) {
 	}
 }
 
-// No line waits for a stuck writer. Lines beyond the room are dropped, and reported at their place
-// once the writer continues.
+// Write does not wait for a stuck writer. Lines beyond Room are dropped. When the writer continues,
+// their number is reported at the place where they are missing.
 func TestFull(t *testing.T) {
 	out := newStuck()
 	q := New(out, report)
@@ -116,8 +116,7 @@ func TestFull(t *testing.T) {
 	}
 }
 
-// A line is dropped if its write fails. A report that fails is repeated with the next line that can
-// be written.
+// A line is dropped if its write fails. A report that fails is repeated before the next line.
 func TestFailing(t *testing.T) {
 	out, gone := newStuck(), errors.New("any")
 	q := New(out, report)
@@ -153,7 +152,7 @@ func TestFailing(t *testing.T) {
 	}
 }
 
-// End writes the waiting lines, and returns at its limit if nobody reads.
+// End waits until the queued lines are written. If no reader takes them, it returns at its limit.
 func TestEnd(t *testing.T) {
 	var text strings.Builder
 	q := New(&text, report)

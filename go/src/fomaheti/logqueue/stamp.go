@@ -12,12 +12,12 @@ const (
 	Error = "error"
 )
 
-// HasJournal reports whether standard error is systemd's journal, which keeps the time of each
-// line: systemd sets JOURNAL_STREAM then (systemd.exec(5)).
+// HasJournal reports whether systemd has set JOURNAL_STREAM: then standard error goes to systemd's
+// journal, which keeps the time of each line (systemd.exec(5)).
 func HasJournal() bool { return os.Getenv("JOURNAL_STREAM") != "" }
 
-// Stamp returns the time and the level with which a line of text begins if it does not go to the
-// journal.
+// Stamp returns the beginning of a text line that does not go to the journal: the time in UTC, the
+// level and a space.
 func Stamp(now time.Time, level string) string {
 	return now.UTC().Format(time.RFC3339) + " " + level + " "
 }

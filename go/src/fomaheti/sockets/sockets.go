@@ -15,14 +15,15 @@ import (
 	"time"
 )
 
-// A start waits for the lock on the folder of its socket for lockTime, and tries every lockPause.
-// Another start needs the lock only for a moment.
+// A starting program waits at most lockTime for the lock on the folder of its socket, and tries
+// again every lockPause. Another starting program holds the lock only for a moment.
 const (
 	lockTime  = time.Second
 	lockPause = 10 * time.Millisecond
 )
 
-// Socket is a listening Unix socket that removes its file when it is closed.
+// Socket is a listening Unix socket. Close removes its file, unless another process has replaced
+// this file.
 type Socket struct {
 	*net.UnixListener
 	path  string
@@ -30,15 +31,15 @@ type Socket struct {
 	close sync.Once
 }
 
-// ListenForGroup makes a socket for its owner, with mode 0600, or for its owner and a group, with
-// 0660.
+// ListenForGroup makes a socket. If group is empty, only the owner of the socket may connect (mode
+// 0600). Otherwise group is the name or number of a group that may connect too (mode 0660).
 func ListenForGroup(path, group string) (*Socket, error) {
 	number, err := groupNumber(group)
 	if err != nil {
 		return nil, err
 	}
-	// The umask sets the mode from the start: before a later change of the mode anybody could
-	// connect.
+	// With this umask the socket has mode 0600 from the start. If the mode were changed after
+	// Listen, other users could connect before the change.
 	before := syscall.Umask(0o177)
 	socket, err := Listen(path)
 	syscall.Umask(before)
@@ -55,7 +56,8 @@ func ListenForGroup(path, group string) (*Socket, error) {
 	return socket, nil
 }
 
-// groupNumber returns the number of a group, given by its name or number.
+// groupNumber returns the number of a group that is given by its name or number. For an empty text
+// it returns 0, which is not used.
 func groupNumber(group string) (int, error) {
 	if group == "" {
 		return 0, nil
@@ -70,9 +72,10 @@ func groupNumber(group string) (int, error) {
 	return strconv.Atoi(found.Gid)
 }
 
-// Listen makes a socket. It replaces the socket of an earlier process, on which nobody answers. Any
-// other file stays and is an error. Everybody with read access can lock the folder: if another
-// process keeps the lock for a second, Listen makes the socket without it and logs a line.
+// Listen makes a socket. It replaces the socket of an earlier process if no process listens on it
+// now. Any other file with this path stays, and Listen fails. Every user who can read the folder
+// can lock it: if another process keeps the lock for lockTime, Listen logs a line and makes the
+// socket without the lock.
 func Listen(path string) (*Socket, error) {
 	folder, err := openFolder(path)
 	if err != nil {
@@ -101,7 +104,7 @@ func Listen(path string) (*Socket, error) {
 	return &Socket{UnixListener: listener, path: path, file: file}, nil
 }
 
-// Close closes the socket and removes its file.
+// Close closes the socket and removes its file. A second call does nothing.
 func (s *Socket) Close() (err error) {
 	s.close.Do(func() {
 		s.remove()
@@ -111,8 +114,8 @@ func (s *Socket) Close() (err error) {
 }
 
 // remove removes the file of the socket, unless it was replaced. It compares device and inode
-// before the listener is closed: until then no other file gets this inode. It does not wait for the
-// lock: until the listener is closed, no starting process replaces this socket.
+// before the listener is closed: until then no other file gets this inode. It tries the lock once
+// and does not wait for it: until the listener is closed, no starting process replaces this socket.
 func (s *Socket) remove() {
 	folder, err := openFolder(s.path)
 	if err != nil {
@@ -130,8 +133,9 @@ func openFolder(path string) (*os.File, error) {
 	return os.Open(filepath.Dir(path))
 }
 
-// lockSoon locks a folder: if two processes start together, neither removes the other's new socket.
-// It reports whether it got the lock in time.
+// lockSoon locks a folder. With the lock, of two processes that start together, neither removes the
+// other's new socket. If another process keeps the lock for lockTime, isLocked is false and err is
+// nil.
 func lockSoon(folder *os.File) (isLocked bool, err error) {
 	for end := time.Now().Add(lockTime); ; time.Sleep(lockPause) {
 		err := lock(folder)

@@ -57,7 +57,8 @@ func logged(t *testing.T) *bytes.Buffer {
 	return lines
 }
 
-// If two processes start together, the second looks at the socket only after the first has made it.
+// Listen waits for the lock on the folder. So if two processes start together, the second looks at
+// the socket only after the first has made it.
 func TestListenWaitsForTheFolder(t *testing.T) {
 	lines := logged(t)
 	path := filepath.Join(t.TempDir(), "csi.sock")
@@ -85,7 +86,7 @@ func TestListenWaitsForTheFolder(t *testing.T) {
 }
 
 // If another process keeps the folder locked, the socket is made after a second, and a line reports
-// it.
+// that the lock is missing.
 func TestStartInAFolderThatStaysLocked(t *testing.T) {
 	lines := logged(t)
 	path := filepath.Join(t.TempDir(), "csi.sock")
@@ -109,7 +110,8 @@ func TestStartInAFolderThatStaysLocked(t *testing.T) {
 	}
 }
 
-// If another process has locked the folder, Close removes the socket at once. Another socket stays.
+// If another process has locked the folder, Close removes the file of its socket at once. If
+// another socket has replaced this file, the other socket stays.
 func TestEndInAFolderThatIsLocked(t *testing.T) {
 	for _, isOther := range []bool{false, true} {
 		path := filepath.Join(t.TempDir(), "csi.sock")
@@ -154,7 +156,8 @@ func TestSocketOfAnotherKindStays(t *testing.T) {
 	}
 }
 
-// Close removes the socket's own file, once, and no file that replaced it.
+// Close removes the socket's own file, and no file that replaced it. A second Close changes
+// nothing.
 func TestFileOfTheSocket(t *testing.T) {
 	path := filepath.Join(t.TempDir(), "csi.sock")
 	rows := map[string]func() *Socket{
@@ -186,8 +189,8 @@ func TestFileOfTheSocket(t *testing.T) {
 	}
 }
 
-// The mode allows only the owner, or the owner and a group, whatever the umask is. The umask is
-// restored.
+// The mode allows only the owner, or the owner and a group, also with a umask that allows more.
+// ListenForGroup restores the umask. It refuses an unknown group and makes no socket.
 func TestSocketForGroup(t *testing.T) {
 	before := syscall.Umask(0o002)
 	defer syscall.Umask(before)

@@ -8,7 +8,7 @@ import (
 	"io"
 )
 
-// Parse parses words into flags. For --help it prints the usage and the flags, and returns
+// Parse parses words into flags. For --help it prints the usage and the flags to shown, and returns
 // flag.ErrHelp. A word after the flags is an error. The flags must be silent: flag.ContinueOnError,
 // without output.
 func Parse(flags *flag.FlagSet, words []string, usage string, shown io.Writer) error {
