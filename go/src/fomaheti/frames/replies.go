@@ -137,8 +137,7 @@ func (r *Replies) readHead() error {
 	if err != nil {
 		return err
 	}
-	// The text is a part of the buffer, so it is copied.
-	r.code, r.text, r.body, r.read = code, string(text), make([]byte, bodyBytes), 0
+	r.code, r.text, r.body, r.read = code, text, make([]byte, bodyBytes), 0
 	_, err = r.in.Discard(1 + 2 + textBytes + 1 + 4)
 	return err
 }
@@ -167,17 +166,18 @@ func (r *Replies) peekTextLength(code codes.Code) (int, error) {
 	return size, nil
 }
 
-func (r *Replies) peekText(size int) ([]byte, error) {
+// peekText returns a copy of the text. The next Peek may move the bytes of the buffer.
+func (r *Replies) peekText(size int) (string, error) {
 	head, err := r.in.Peek(3 + size)
 	if err != nil {
-		return nil, err
+		return "", err
 	}
 	for _, character := range head[3:] {
 		if !isShown(character) {
-			return nil, Malformed("text")
+			return "", Malformed("text")
 		}
 	}
-	return head[3:], nil
+	return string(head[3:]), nil
 }
 
 func (r *Replies) peekBodyLength(code codes.Code, textBytes int) (int, error) {

@@ -2,6 +2,7 @@ package frames
 
 import (
 	"bytes"
+	"fmt"
 	"io"
 	"os"
 	"strings"
@@ -168,6 +169,23 @@ func TestInterruptedReply(t *testing.T) {
 	}
 	if _, _, err := next(); err != io.EOF {
 		t.Errorf("the end: %v", err)
+	}
+}
+
+// Each refusal of a stream has its own text, even if the buffer ends within the refusal. The texts
+// have many lengths, so the buffer ends at each byte of some refusal.
+func TestTextsAcrossTheBuffer(t *testing.T) {
+	const count = 5000
+	var stream []byte
+	text := func(i int) string { return fmt.Sprintf("%0*d", 20+i%31, i) }
+	for i := 0; i < count; i++ {
+		stream = Reply{codes.NotFound, text(i), nil}.Append(stream)
+	}
+	replies := NewReplies(bytes.NewReader(stream))
+	for i := 0; i < count; i++ {
+		if got, err := replies.Next(); err != nil || got.Text != text(i) {
+			t.Fatalf("%v, %v, wanted %s", got, err, text(i))
+		}
 	}
 }
 
