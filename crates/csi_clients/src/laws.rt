@@ -87,7 +87,8 @@ pub fn guessed_id(config: &Config)
 /// The law starts in a State that meets the invariant, and other clients make requests that pass the checks
 /// of their arguments. DeleteVolume, ControllerUnpublishVolume, ControllerModifyVolume and
 /// ValidateVolumeCapabilities have the same plan before and after these requests. ControllerPublishVolume
-/// also has the same plan, unless its node is full in one of the two States. A CreateVolume with a new name
+/// also has the same plan, unless it is refused in one of the two States because its node has its maximum of
+/// volumes. A CreateVolume with a new name
 /// has the same size, name and parameters, but its pool and its number come from the later State. So it may
 /// be refused in one of the two States and not in the other.
 pub fn made_later(config: &Config)

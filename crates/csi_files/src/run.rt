@@ -20,7 +20,8 @@ pub trait Observer {
     /// Called after the tables were adopted, with the counts of their rows. No call was read yet.
     fn adopted(&self, content: &Content);
 
-    /// Called if memory has no room for a copy of the volumes. Each read is then answered from the file.
+    /// Called if a copy of the volumes was tried and memory has no room for it. Each read is then answered
+    /// from the file. Not called if the options forbid a copy.
     fn uncopied(&self);
 
     /// Called if the database refused any call: after the last call, or after a failed copy of the volumes.
@@ -100,7 +101,8 @@ pub enum Refusal {
     Blank,
     /// The tables were not adopted, because of this fault.
     NotAdopted(AdoptFault),
-    /// The store refused a read while the volumes were copied into memory.
+    /// The store refused a read while the volumes were copied into memory. The fault is never `NoMemory`: if
+    /// memory is refused, the run goes on without a copy.
     NotCopied(StoreFault),
 }
 
@@ -116,8 +118,9 @@ pub enum RunFailure<D: Disk> {
     /// Calls were served, but the store refused some of them. The WAL was copied into the database file if
     /// the disk and memory allowed it. The committed changes are in the WAL, in the database file or in both.
     Left(RunReport, Files<D>),
-    /// Calls were served, but copying the WAL into the database file failed with this error. The committed
-    /// changes are in the WAL, in the database file or in both.
+    /// Calls were served, but copying the WAL into the database file failed with this error. The error is
+    /// `Closed` if the copy was not tried, since an earlier fault had shut the store or a sync had failed.
+    /// The committed changes are in the WAL, in the database file or in both.
     NotClosed(RunReport, Error, Files<D>),
 }
 

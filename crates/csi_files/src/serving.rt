@@ -61,7 +61,8 @@ impl<O: Observer> Run<'_, O> {
     ///
     /// - `Refused`: the database is refused. No call was read.
     /// - `Left`: the store refused a call.
-    /// - `NotClosed`: copying the WAL into the database file failed after the calls.
+    /// - `NotClosed`: after the calls, copying the WAL into the database file failed, or the files cannot be
+    ///   used after an earlier fault.
     pub fn adopt_and_serve<D: Disk + Drop, R: Read, W: Write>(
         &self,
         conn: Connection<FileStore<D>>,

@@ -79,9 +79,10 @@ impl<O: Observer> Run<'_, O> {
     ///
     /// `NotOpened` means that the files were not opened, and `Refused` that their database was refused. No
     /// call was read and no reply written, and the next run starts from the State from which this run would
-    /// have started. `Left` means that the store refused a call, and `NotClosed` that copying the WAL into
-    /// the database file failed. After `Left` or `NotClosed`, calls were served as after `Ok`. The files have
-    /// the State after the calls, or the State that a refused call would have made.
+    /// have started. `Left` means that the store refused a call. `NotClosed` means that copying the WAL into
+    /// the database file failed, or that the files cannot be used after an earlier fault. After `Left` or
+    /// `NotClosed`, calls were served as after `Ok`. The files have the State after the calls, or the State
+    /// that a refused call would have made.
     ///
     /// # Not promised
     ///

@@ -168,8 +168,8 @@ pub fn has_key(keys: &[CapKey], key: &CapKey) -> bool
 }
 
 /// Returns true if a volume can be created with this key (CSI specification, 'CreateVolume'). Block access
-/// allows each known mode. Mount access allows the known modes in which no node writes while other nodes have
-/// the volume.
+/// allows each known mode. Mount access allows each known mode except `MULTI_NODE_SINGLE_WRITER` and
+/// `MULTI_NODE_MULTI_WRITER`, in which a node may write while other nodes have the volume.
 pub fn supported(key: &CapKey) -> bool
     ensures { result ≡ is_supported_key key.now }
 {

@@ -107,8 +107,8 @@ fn attachments_of<K: Keeper>(
 }
 
 // Adds the volumes of a page with their attachments to the copy. `after` is the number of the volume before
-// the page. The volumes are moved. Returns the number of the last volume on the page, or `after` if the page
-// is empty.
+// the page, or 0 for the first page. Returns the number of the last volume on the page, or `after` if the
+// page is empty.
 fn restore_page<K: Keeper>(
     alloc: Global,
     keeper: &mut K,
