@@ -97,7 +97,8 @@ impl Drop for OpenChangeStore {
 }
 
 impl OpenChangeStore {
-    /// Returns true if calls may be answered from the copy in memory. These conditions must hold:
+    /// Returns true if calls may be answered from the copy in memory. These conditions must hold, and the
+    /// change store is asked only if the first three do:
     ///
     /// - the copy has each change
     /// - no change failed
@@ -130,9 +131,11 @@ fn is_leading<P: Peer>(alloc: Global, change_store: &mut P) -> bool
 }
 
 /// Asks the change store at the other end of a connection if it leads, and returns true if it answers yes.
-/// After this answer, no other change store has made a change since the rows were read over this connection,
-/// since a change store that stops leading closes its connections. A copy that has each change of this
-/// program is then current.
+/// Returns false if it answers no, if no reply comes within 30 seconds, or if memory is refused.
+///
+/// After the answer yes, no other change store has made a change since the rows were read over this
+/// connection, since a change store that stops leading closes its connections. A copy that has each change of
+/// this program is then current.
 pub(crate) fn leads(alloc: Global, stream: &TimedStream) -> bool {
     stream.deadline().begin_exchange();
     is_leading(alloc, &mut Channel::new(stream, stream))
@@ -365,8 +368,8 @@ fn reach(
 ///
 /// # Errors
 ///
-/// If the change store cannot be reached, does not reply or refuses a request, its rows are refused, or
-/// memory is refused.
+/// If the change store cannot be reached, does not reply in time or refuses a request, its rows are refused,
+/// the clock cannot be read, or memory is refused.
 pub(crate) fn open_change_store(
     console: &Console<'_>,
     config: &Config,

@@ -9,7 +9,8 @@ use crate::tables::{check_existing, check_path};
 use csid_console::Console;
 use csid_settings::{Chosen, Failure, configuration};
 
-// Checks that a file has tables, as far as its path and its first bytes show.
+// Checks that a file has tables, as far as its path and its first bytes show. A file that cannot be read
+// passes, since the reading of its tables reports the reason.
 fn check_readable(rt: &HostRuntime, path: &str) -> Result<(), Failure>
     ensures { IfErr result (λ failure. IsOrNoMemory 4 failure) }
 {
@@ -33,7 +34,8 @@ pub(crate) fn check_tables(
     csid_listings::check_tables(console, path, &config)
 }
 
-/// Writes a list of the volumes in a file of tables on standard output, in JSON if `is_json` is true.
+/// Writes a list of the volumes in a file of tables that pass the filter `chosen` on standard output, in JSON
+/// if `is_json` is true.
 ///
 /// # Errors
 ///

@@ -170,7 +170,8 @@ fn cache_pages(rt: &HostRuntime, count: u64, page_bytes: u64) -> u64
 }
 
 /// Returns the limits of memory for opening the file of tables. They depend on the size of the file and of
-/// its WAL. For a file that does not exist, `bytes` is 0 and `cache_pages` is 2,000.
+/// its WAL. For a file that does not exist or whose size is not known, `bytes` is 0 and `cache_pages` is
+/// 2,000.
 pub(crate) fn opening_limits(rt: &HostRuntime, path: &str) -> OpeningLimits
     ensures least { 2000 ≤ result.cache_pages }
 {
@@ -185,7 +186,8 @@ pub(crate) fn opening_limits(rt: &HostRuntime, path: &str) -> OpeningLimits
 }
 
 /// Returns the fault if the file is empty or missing and its WAL has changes, otherwise `None`. An opening of
-/// such a file would start a new WAL, and the changes would be lost.
+/// such a file would start a new WAL, and the changes would be lost. Files that cannot be read give `None`,
+/// since the opening reports the reason.
 pub(crate) fn fault_of_wal(rt: &HostRuntime, path: &str) -> Option<FileFault> {
     match (is_empty(rt, path), has_frames(rt, path)) {
         (Ok(true), Ok(true)) => Some(FileFault::Emptied),

@@ -96,7 +96,8 @@ fn report_outcome(console: &Console<'_>, ending: Ending, now: Instant, end: RunE
 }
 
 // Reports how a connection ended. `ending` is the reason if the server ended the turn of the connection.
-// `is_cut` is true if a reply was held back. Nothing is reported if the calls ended without a fault.
+// `is_cut` is true if a reply was held back. Nothing is reported if the calls ended without a fault, or if
+// the clock cannot be read.
 fn report_end(console: &Console<'_>, ending: Option<Ending>, is_cut: bool, end: RunEnd) {
     let Ok(now) = Instant::now(console.rt) else {
         return;
@@ -483,8 +484,9 @@ fn next_peer(service: &Service<'_>, waiting: &mut Waiting) -> Result<Option<Pend
 ///
 /// # Errors
 ///
-/// If the file of tables or the group is refused, the socket cannot be bound or accepts no connection, or
-/// memory is refused.
+/// If the file of tables or the group is refused, the socket cannot be bound or accepts no connection, the
+/// system refuses to wait for connections, the clock cannot be read, or memory is refused. A failure of one
+/// connection, or of the tables or the change store after the start, is only reported.
 pub(crate) fn serve_socket<'a>(
     console: &'a Console<'a>,
     config: &'a Config,

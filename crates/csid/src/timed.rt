@@ -54,8 +54,9 @@ impl Deadline {
         })
     }
 
-    /// Begins an exchange, whose deadline is 30 seconds from now. If the clock cannot be read, the reads and
-    /// writes of the exchange fail.
+    /// Begins an exchange, whose deadline is 30 seconds from now. During an opening, the deadline of the
+    /// opening counts if it is earlier. If the clock cannot be read, the reads and writes of the exchange
+    /// fail.
     pub(crate) fn begin_exchange(&self) {
         self.exchange.set(after(&self.rt, EXCHANGE_SECONDS).ok());
     }

@@ -138,8 +138,9 @@ impl FirstBytes {
         Ok(longest)
     }
 
-    /// Returns the time that the peer has taken for the bytes of its first call, from the first byte to the
-    /// last that has come. The time is zero if no byte has come.
+    /// Returns the time that the peer has taken for the bytes of its first call. It is the time from the
+    /// first byte to the last byte or the end of the stream, as far as they have come. The time is zero if no
+    /// byte has come.
     pub fn spent(&self) -> Duration
         ensures { as_nanos result ≡ spent_nanos self.now }
     {
@@ -198,8 +199,8 @@ impl Pending {
         }
     }
 
-    /// Reads once from the connection. If the connection is ready, reads nothing, since the later bytes are
-    /// read when the connection is served.
+    /// Reads once from the connection, at most 4,096 bytes, and keeps the bytes. If the connection is ready,
+    /// reads nothing, since the later bytes are read when the connection is served.
     pub fn receive(&mut self, now: Instant) -> PeerInput
         ensures known { is_known self.old.first.start ≡ true
             → (result ≡ PeerInput.Nothing) × (self.new.first ≡ self.old.first) }

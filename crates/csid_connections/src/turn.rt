@@ -2,7 +2,8 @@
 //! queue is polled.
 //!
 //! If another connection is ready, the connection that is served is closed as soon as all calls that have
-//! come from it are answered. Until then, its peer may delay a call or a reply only for a short time.
+//! come from it are answered, or between two calls after 60 seconds of its turn. Until then, its peer may
+//! delay a call or a reply only for a short time.
 
 ghost use Rattle.std.specs.Prelude.{◌≡◌, Bool, true, false, Some, ⊤, OnOk};
 ghost use Rattle.std.specs.Io.{ReadsAtMost, WritesAtMost};
@@ -249,7 +250,8 @@ impl<S: Stream> Steps<'_, S> {
 pub struct Turn<'a> {
     stream: &'a UnixStream,
     steps: RefCell<Steps<'a, UnixStream>>,
-    /// The reason why the turn ended before the peer closed the connection, otherwise `None`.
+    /// The reason why the server ended the turn. `None` while the turn goes on, and if the peer or an error
+    /// of the stream ended it.
     pub ending: Cell<Option<Ending>>,
 }
 
@@ -326,8 +328,8 @@ impl<R: Read> Read for TurnReader<'_, '_, R> {
     }
 }
 
-/// Writes the replies of a connection to its stream. A write may wait until the stream takes more bytes, and
-/// then continues with the bytes that are left. A flush ends a reply.
+/// Writes the replies of a connection to its stream. A write may wait until the stream takes bytes, and
+/// returns the number of bytes that were taken. A flush ends a reply.
 #[derive(Drop)]
 pub struct TurnWriter<'t, 'a, W> {
     turn: &'t Turn<'a>,

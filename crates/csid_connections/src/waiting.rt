@@ -21,7 +21,7 @@ use std::os::unix::net::{UnixListener, UnixStream};
 use std::time::{Duration, Instant};
 
 // The greatest number of connections in the queue. If one more connection comes, the oldest connection that
-// is not ready is closed. If all are ready, no further connection is accepted.
+// was read and is not ready is closed. If there is no such connection, no further connection is accepted.
 const MOST: usize = 256;
 
 // The greatest number of connections that one call of `look` accepts.
@@ -40,7 +40,7 @@ pub struct Waiting {
     left: u32,
     // The time for which a peer may send or take nothing, or `None` for any time.
     idle: Option<Duration>,
-    // True if a connection or bytes came at the last look.
+    // True if a connection or bytes came at the last look, or connections were closed to make room.
     is_stirring: bool,
 }
 
@@ -331,7 +331,7 @@ impl Waiting {
         }
     }
 
-    // Returns the index of the oldest connection that is ready.
+    // Returns the index of the oldest connection that is ready, or `None` if no connection is ready.
     fn first_ready(&self) -> Option<usize>
         ensures place { result ≡ position is_ready self.now.pending.items }
         ensures ready { IfSome result (λ place. (d : Pending)
@@ -340,7 +340,8 @@ impl Waiting {
         self.pending.iter().position(|it| it.first.is_known())
     }
 
-    // Removes the oldest connection that is ready from the queue and returns it.
+    // Removes the oldest connection that is ready from the queue and returns it. If no connection is ready,
+    // returns `None`.
     fn pop_ready(&mut self) -> Option<Pending>
         ensures taken { TakesOut (position is_ready self.old.pending.items)
             self.old.pending.items self.new.pending.items result }
@@ -368,7 +369,9 @@ impl Waiting {
         longest
     }
 
-    /// Accepts connections, and reads from each connection of the queue.
+    /// Accepts connections, and reads from each connection of the queue. Closes and reports the connections
+    /// that failed, were silent for too long, or did not complete their first call in time. Also makes the
+    /// console write its counts of ended connections if they are due.
     ///
     /// # Errors
     ///
@@ -388,7 +391,8 @@ impl Waiting {
 
     /// Waits for the first of these events: a connection or bytes come, a connection of the queue must be
     /// closed, the console must write its counts of ended connections, or the time `longest` is over. `None`
-    /// means no time limit. Returns at once if the last look found a connection or bytes.
+    /// means no time limit. Returns at once if a connection or bytes came at the last look, or if the last
+    /// look closed connections to make room.
     ///
     /// # Errors
     ///
@@ -410,7 +414,7 @@ impl Waiting {
     }
 
     /// Waits until a connection of the queue is ready ([`Waiting::has_ready`]), and returns the oldest ready
-    /// connection. Returns `None` after the last connection.
+    /// connection. Returns `None` if no more connections are accepted and the queue is empty.
     ///
     /// # Errors
     ///

@@ -110,7 +110,7 @@ fn write_failure(rt: &HostRuntime, path: &str, error: &io::Error) -> Failure
 }
 
 // Writes a copy as `TO.new` and then gives it the name `TO`. After a failure, removes `TO.new` unless it
-// existed before.
+// existed before. If only the sync of the folder fails, the copy stays at `TO`.
 fn write_copy(rt: &HostRuntime, to: &str, bytes: &[u8]) -> Result<(), Failure>
     ensures { IfErr result (λ failure. IsOrNoMemory 4 failure) }
 {
@@ -134,8 +134,9 @@ fn write_copy(rt: &HostRuntime, to: &str, bytes: &[u8]) -> Result<(), Failure>
 ///
 /// # Errors
 ///
-/// If a file exists at `to` or at the path `to` with `.new` at its end, the tables cannot be read or are
-/// refused, the copy or the counts cannot be written, or memory is refused.
+/// If a file exists at `to` or at the path `to` with `.new` at its end, the system does not report if a file
+/// exists at `to`, the tables cannot be read or are refused, the copy or the counts cannot be written, or
+/// memory is refused. If only the counts cannot be written, the copy is complete.
 pub fn copy_tables(
     console: &Console<'_>,
     path: &str,

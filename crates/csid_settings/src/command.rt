@@ -285,8 +285,9 @@ const NUMBERS: [(&str, &str); 2] = [
     ("idle", "--idle <SECONDS>"),
 ];
 
-/// Returns the first option whose value is not only decimal digits: the option as an error line shows it, and
-/// its value. Returns `None` if there is no such option. The check is needed since `clap` accepts a sign.
+/// Returns the first of `--connections` and `--idle` whose value is not only decimal digits: the option as an
+/// error line shows it, and its value. Returns `None` if there is no such value. The check is needed since
+/// `clap` accepts a sign.
 pub fn odd_number<'a>(matches: &ArgMatches<'a>) -> Option<(&'static str, &'a str)> {
     let (_, arguments) = matches.subcommand()?;
     for (name, shown) in NUMBERS {
