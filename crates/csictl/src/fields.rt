@@ -293,6 +293,11 @@ impl<'m, 'a> Fields<'m, 'a> {
 
     /// Returns the pairs of an option, or `None` if the option is not given. Commas separate the pairs, and
     /// the first `=` of a pair ends its key. If two pairs have the same key, the last one counts.
+    ///
+    /// # Errors
+    ///
+    /// [`FieldFault::NotPair`] if a pair has no `=`, also for an empty text, or [`FieldFault::NoMemory`] if
+    /// memory is refused.
     pub(crate) fn pairs(&self, name: &str) -> Result<Option<Map>, FieldFault> {
         let Some(text) = self.arguments.get_str(name) else {
             return Ok(None);
@@ -302,7 +307,7 @@ impl<'m, 'a> Fields<'m, 'a> {
         Ok(Some(map))
     }
 
-    /// Returns the pairs of an option, or an empty map if the option is not given.
+    /// Returns the pairs of an option as [`Fields::pairs`] does, or an empty map if the option is not given.
     pub(crate) fn map(&self, name: &str) -> Result<Map, FieldFault> {
         let mut map = Map::new(self.alloc);
         if let Some(text) = self.arguments.get_str(name) {

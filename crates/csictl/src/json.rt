@@ -1,5 +1,6 @@
-//! Writes replies as JSON, in the mapping of proto3. Each field of a message is written, even if it has its
-//! default value.
+//! Writes replies as JSON, in the mapping of proto3. Each field that `csi_codec` decodes is written, even if
+//! it has its default value. The exceptions are the mount group of a capability, and a oneof without a
+//! member.
 
 use command_line::MODE_NAMES;
 use csi_types::{

@@ -132,8 +132,9 @@ pub(crate) fn bytes_of(text: &str) -> Option<i64> {
     }
 }
 
-/// Returns a size as a text in the greatest binary unit that shows it exactly with at most one decimal, such
-/// as `1.5 GiB`. A negative size is in bytes.
+/// Returns a size as a text in a binary unit, such as `1.5 GiB`. The unit is the greatest one that is at most
+/// the size and shows it exactly with at most one decimal. If there is none, and for a negative size, the
+/// text is in bytes.
 pub(crate) fn size_text(alloc: Global, bytes: i64) -> Result<String, AllocError> {
     match u64::try_from(bytes) {
         Ok(count) => command_line::size_text(alloc, count),

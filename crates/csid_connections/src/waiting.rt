@@ -24,7 +24,8 @@ use std::time::{Duration, Instant};
 // was read and is not ready is closed. If there is no such connection, no further connection is accepted.
 const MOST: usize = 256;
 
-// The greatest number of connections that one call of `look` accepts.
+// The greatest number of connections that one call of `look` accepts, so that the call soon reads from the
+// connections of the queue.
 const AT_ONCE: usize = 64;
 
 // The token of every source. A look reads from all connections, so it does not matter which source is ready.

@@ -43,7 +43,8 @@ fn begin<S: Alter>(conn: &mut Connection<S>, start: &str, statements: &str) -> R
 }
 
 // Adopts the tables, gives the connection back and adopts the tables again. Returns the answer of the first
-// adoption, and also the answer of the second if it differs.
+// adoption, and also the answer of the second if it differs. If both are the same and the tables began with
+// format 1, their format after the first adoption follows.
 fn adopt_twice<S: Alter + Drop>(
     alloc: Global,
     mut conn: Connection<S>,

@@ -44,7 +44,8 @@ impl Trials<'_> {
     ///
     /// # Errors
     ///
-    /// If a trial has another outcome than the wanted outcome, or memory is refused.
+    /// If a trial has another outcome than the wanted outcome, a server reads after a fault or a failed
+    /// write, the stream makes a million calls of a store, or memory is refused.
     pub(crate) fn all(&self) -> Result<&'static str, RowFault> {
         self.pieces()?;
         if self.stream.input.len() > LONGEST {
