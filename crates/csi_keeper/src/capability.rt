@@ -111,8 +111,9 @@ impl Ord for CapKey {
     }
 }
 
-// Returns the mode that is wider than `mode`, if there is one. CSI 1.5 split `SINGLE_NODE_WRITER` (1) into
-// `SINGLE_NODE_SINGLE_WRITER` (6) and `SINGLE_NODE_MULTI_WRITER` (7), so mode 1 is wider than these two.
+// Returns the mode that is wider than `mode`, or `None` if no mode is wider. CSI 1.5 split
+// `SINGLE_NODE_WRITER` (1) into `SINGLE_NODE_SINGLE_WRITER` (6) and `SINGLE_NODE_MULTI_WRITER` (7), so mode 1
+// is wider than these two.
 fn wider_mode(mode: u8) -> Option<u8>
     ensures { result ≡ wider_mode mode }
 {

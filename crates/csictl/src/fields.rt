@@ -222,7 +222,8 @@ impl<'m, 'a> Fields<'m, 'a> {
         })
     }
 
-    /// Returns the text of an option, or an empty text if the option is not given.
+    /// Returns the text of an option, or an empty text if the option is not given. Fails if memory is
+    /// refused.
     pub(crate) fn text(&self, name: &str) -> Result<Text, FieldFault> {
         Ok(Text::from_str(self.alloc, self.arguments.get_str(name).unwrap_or(""))?)
     }
@@ -257,8 +258,10 @@ impl<'m, 'a> Fields<'m, 'a> {
         Ok(Access::Mount(Boxed::new(self.alloc, mount)?))
     }
 
-    /// Returns the capability that the options describe, with the mode in `--mode`. Returns `None` without
-    /// `--mode`.
+    /// Returns the capability that the options describe: its mode is in `--mode`, and it is a mount of the
+    /// file system in `--fs`, or a block device without `--fs`. A command for people without `--mode` has the
+    /// mode SINGLE_NODE_WRITER. In any other command, returns `None` without `--mode`. Fails if memory is
+    /// refused.
     pub(crate) fn capability(&self) -> Result<Option<Capability>, FieldFault> {
         let Some(mode) = self.mode else {
             return Ok(None);
@@ -269,8 +272,8 @@ impl<'m, 'a> Fields<'m, 'a> {
         }))
     }
 
-    /// Returns a list of the capability that the options describe, with the mode in `--mode`. The list is
-    /// empty without `--mode`.
+    /// Returns a list of the capability that [`Fields::capability`] returns, or an empty list if it returns
+    /// `None`. Fails if memory is refused.
     pub(crate) fn capabilities(&self) -> Result<Items<Capability>, FieldFault> {
         list_of(self.alloc, self.capability()?)
     }

@@ -40,6 +40,10 @@ pub(crate) fn run(rt: &HostRuntime, arguments: &ArgMatches<'_>) -> Result<Ended,
 }
 
 /// Shows the replies on standard input, without a method.
+///
+/// # Errors
+///
+/// If a reply is malformed, reading or writing fails, or memory is refused.
 pub(crate) fn run_plain(rt: &HostRuntime) -> Result<Ended, Failure> {
     show(rt, None)
 }

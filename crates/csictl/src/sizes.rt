@@ -112,7 +112,8 @@ fn units_of(number: &str, unit: u64) -> Option<i64> {
     i64::try_from(tenths / 10).ok()
 }
 
-// Returns the bytes of a size: a number with a unit of `UNITS`, with the unit `B`, or without a unit.
+// Returns the bytes of a size: a number with a unit of `UNITS`, with the unit `B`, or without a unit. Returns
+// `None` for any other text, and if the size is not a whole number of bytes below 2^63.
 fn bytes_of_plain(text: &str) -> Option<i64> {
     for unit in &UNITS {
         if let Some(number) = text.strip_suffix(unit.name) {

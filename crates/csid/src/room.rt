@@ -219,7 +219,8 @@ impl MemoryGauge {
 
     /// Returns true if there is memory for calls, and for the next opening of tables, which takes `opening`
     /// bytes. For the calls, the memory in use must be able to grow again as much as it grew since the last
-    /// use of this function. Also returns true if no limit is known, or the memory in use cannot be measured.
+    /// measurement. `new` makes the first measurement, and each use of this function a further one. Also
+    /// returns true if no limit is known, or the memory in use cannot be measured.
     pub(crate) fn has_room(&self, opening: usize) -> bool {
         if self.address_space.is_none() && self.resident.is_none() {
             return true;

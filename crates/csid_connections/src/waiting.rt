@@ -152,8 +152,8 @@ impl Waiting {
         earliest
     }
 
-    // Returns the time for which a connection in the queue may send nothing. After the last connection was
-    // accepted, this time is at most ten seconds, so that the program ends.
+    // Returns the time for which a connection in the queue may send nothing, or `None` for any time. After
+    // the last connection was accepted, this time is at most ten seconds, so that the program ends.
     fn silence(&self) -> Option<Duration>
         ensures { IsSilence self.now.idle self.now.left result }
     {
@@ -298,8 +298,8 @@ impl Waiting {
         }
     }
 
-    // Reads from the first connection of the queue. Then makes it the last connection, or closes it and
-    // returns the reason.
+    // Reads from the first connection of the queue. Then makes it the last connection and returns `None`, or
+    // closes it and returns the reason. Returns `None` if the queue is empty.
     fn look_at_first(&mut self, now: Instant) -> Option<Ending>
         ensures turns { TurnsOver self.old.idle self.old.left now
             self.old.pending.items self.new.pending.items }

@@ -227,7 +227,7 @@ impl<'a> Console<'a> {
 
     /// Begins a second at `now` if no second has begun, or if the current second is over. Then writes how
     /// many connections ended in the second before without a line of their own. If there are any, the
-    /// connections of the next second get no lines either, and are only counted.
+    /// connections of the second that begins get no lines either, and are only counted.
     pub fn finish_second(&self, now: Instant) {
         if self.left(now).is_none() {
             self.shown.set(0);
@@ -249,8 +249,8 @@ impl<'a> Console<'a> {
 
     /// Writes `what` as a line about a connection that ended. After ten such lines in one second, only counts
     /// the connection under its `ending`. The same holds in a second that follows a second with counts
-    /// ([`Console::finish_second`]). The counts are written at the first use of the console for a connection
-    /// or a wait after the second is over.
+    /// ([`Console::finish_second`]). [`Console::finish`] writes the counts, and so does the first call of
+    /// this function or of `finish_second` after the second is over.
     pub fn report_end<T: Display>(&self, ending: Ending, now: Instant, what: &T) {
         self.finish_second(now);
         let shown = self.shown.get();

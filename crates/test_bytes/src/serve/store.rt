@@ -78,7 +78,7 @@ impl Trials<'_> {
         Err(RowFault::Refused("another call than the next was refused"))
     }
 
-    // Returns the first call, from this index on, that asks the store.
+    // Returns the first call, from this index on, that asks the store, or `None` if no call does.
     fn first_asking(&self, from: usize) -> Option<usize> {
         let calls = self.stream.calls.get(from..)?;
         let place = calls.iter().position(|call| call.asks)?;
