@@ -50,9 +50,9 @@ impl<O: Observer> Run<'_, O> {
     /// Serves the volume machine over the database of two open files: adopts their tables, serves calls, and
     /// closes the files.
     ///
-    /// A database without tables gets new tables, unless the options require existing tables. If memory has
-    /// no room for a copy of the volumes, reads are answered from the file. A change is committed to the file
-    /// before its call is answered.
+    /// A database without tables gets new tables, unless the options require existing tables. Reads are
+    /// answered from a copy of the volumes in memory. If the options forbid a copy, or memory has no room for
+    /// it, they are answered from the file. A change is committed to the file before its call is answered.
     ///
     /// The contract holds for any bytes that the files had when they were opened (`Opens`). `seed` is the
     /// seed of the random salts in the next header of the WAL.

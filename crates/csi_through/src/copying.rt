@@ -14,7 +14,7 @@ use csi_memory::MemKeeper;
 use csi_types::{Items, MAX_NUMBER, MAX_POOL_BYTES, Text};
 use std::alloc::Global;
 
-// The number of volumes that one read returns.
+// The greatest number of volumes that one read returns.
 const PAGE: u32 = 1000;
 
 // Adds the attachments of a volume to the copy, which has no attachments of the volume yet.

@@ -136,9 +136,11 @@ impl<K: Keeper> Through<MemKeeper, KeeperChanges<K>> {
     ///
     /// # Errors
     ///
-    /// If a read of `keeper` fails or an allocation is refused. Also if `keeper` returns a number or a size
-    /// that no volume can have, that is, other values than were written. The error contains `keeper`, whose
-    /// State is unchanged.
+    /// - a read of `keeper` fails, or an allocation is refused
+    /// - `keeper` returns a next number above 2^62, a volume with a number of 2^62 or more, or a size above
+    ///   2^62 bytes. Only a store that returns other values than were written does this.
+    ///
+    /// The error contains `keeper`, whose State is unchanged.
     pub fn over(
         alloc: Global,
         mut keeper: K,
@@ -163,8 +165,8 @@ impl<D: ChangeStore + Drop> Through<MemKeeper, D> {
     /// # Errors
     ///
     /// Returns the fault of a read of `keeper`, or `NoMemory` if an allocation is refused. Returns `Refused`
-    /// if `keeper` returns a number or a size that no volume can have, that is, other values than were
-    /// written.
+    /// if `keeper` returns a next number above 2^62, a volume with a number of 2^62 or more, or a size above
+    /// 2^62 bytes. Only a store that returns other values than were written does this.
     pub fn copied<K: Keeper>(
         alloc: Global,
         keeper: &mut K,

@@ -226,7 +226,8 @@ impl Taker for Groups {
 
 impl Groups {
     /// Makes a group without volumes for each node of the configuration, or for each pool if `by` is
-    /// [`GroupedBy::Pool`]. Without a configuration, there are no groups yet.
+    /// [`GroupedBy::Pool`]. Without a configuration, there are no groups yet. If `are_ids_kept` is true, the
+    /// groups keep the ids of their volumes, and a listing of nodes shows them.
     ///
     /// # Errors
     ///

@@ -112,7 +112,8 @@ impl OpenChangeStore {
     }
 }
 
-// Returns true if a change store replied OK.
+// Returns true if a change store replied with the status OK, and false for any other reply or without a
+// reply.
 fn is_agreed(received: Received) -> bool
     ensures { IsTrue result → IsAgreed received }
 {

@@ -17,13 +17,15 @@ const KIND_AT: usize = 100;
 
 const CELLS_AT: usize = 103;
 
+// The kind of a page that is a leaf of a table.
 const LEAF: u8 = 13;
 
 // The greatest number of bytes of memory that an opening takes for one byte of the file: six for the row, and
 // one for the page that the opening keeps.
 const OPENING_FACTOR: u64 = 7;
 
-// The least number of pages that an opening may keep in memory.
+// The number of pages that each opening may keep in memory, even if a 32nd of the process's limit of memory
+// is less.
 const LEAST_CACHE_PAGES: u64 = 2000;
 
 // The greatest number of bytes of pages that an opening keeps in memory: 64 MiB. The opening keeps all pages

@@ -6,11 +6,12 @@ use std::os::unix::net::UnixStream;
 use std::rc::Rc;
 use std::time::{Duration, Instant};
 
-// The number of seconds for a frame and its complete reply. After this time it is unknown if a change was
-// made.
+// The greatest number of seconds for sending a frame and receiving its complete reply. After this time the
+// exchange fails, and it is unknown if the change store made the change of the frame.
 const EXCHANGE_SECONDS: u64 = 30;
 
-// The number of seconds in which an opening must have read all rows.
+// The greatest number of seconds for reading all rows in an opening. Each page of rows is an exchange of its
+// own, so many slow exchanges could otherwise delay the server without an end.
 const ROWS_SECONDS: u64 = 300;
 
 /// The deadlines of a connection to a change store: for the current exchange, and for the opening.

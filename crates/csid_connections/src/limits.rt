@@ -20,7 +20,8 @@ pub(crate) const WANTED_SECONDS: u64 = 1;
 pub(crate) const SHORTEST_MILLIS: u64 = 100;
 
 /// The number of seconds of a turn after which the connection that is served is closed between two calls, if
-/// another connection is ready. If no other connection is ready, the turn goes on.
+/// another connection is ready. If no other connection is ready, the turn goes on. Without this limit, a peer
+/// that sends call after call would delay the other connections without an end.
 pub(crate) const TURN_SECONDS: u64 = 60;
 
 /// Returns the part of the time `longest` that is left at `now`, counted from `begun`. Returns `None` if the

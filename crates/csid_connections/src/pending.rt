@@ -41,7 +41,7 @@ pub enum PeerInput {
     Lost,
 }
 
-/// The bytes that a connection in the queue has sent.
+/// The bytes that a connection has sent before it is served, their kind, and the times at which they came.
 #[derive(Drop)]
 pub struct FirstBytes {
     /// The bytes, in the order in which they came.
@@ -56,11 +56,11 @@ pub struct FirstBytes {
     begun: Option<Instant>,
 }
 
-/// A connection in the queue, with the bytes that it has sent.
+/// A connection in the queue: its stream, and the bytes that were read from it before it is served.
 pub struct Pending {
     /// The stream. Its reads and writes do not block while the connection is in the queue.
     pub stream: UnixStream,
-    /// The bytes that the connection has sent.
+    /// The bytes that were read from the stream so far. The server of the connection reads them first.
     pub first: FirstBytes,
 }
 

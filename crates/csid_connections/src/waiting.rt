@@ -31,7 +31,7 @@ const AT_ONCE: usize = 64;
 // The token of every source. A look reads from all connections, so it does not matter which source is ready.
 const ANY: Token = Token(0);
 
-/// The queue of connections, and the socket that accepts them.
+/// The queue of connections that wait to be served, at most 256 of them, and the socket at which they come.
 pub struct Waiting {
     listener: UnixListener,
     poll: Poll,

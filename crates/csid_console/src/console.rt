@@ -39,9 +39,10 @@ pub enum Ending {
     Crowded,
     /// The connection sent a malformed frame.
     Malformed,
-    /// The connection delayed another connection for too long.
+    /// The connection delayed another connection for too long, during a call or a reply, or after the time of
+    /// its turn.
     Preempted,
-    /// The connection could not be read or written.
+    /// The connection could not be read or written, memory was refused, or the limit of reads was reached.
     Failed,
 }
 
@@ -225,9 +226,10 @@ impl<'a> Console<'a> {
         }
     }
 
-    /// Begins a second at `now` if no second has begun, or if the current second is over. Then writes how
-    /// many connections ended in the second before without a line of their own. If there are any, the
-    /// connections of the second that begins get no lines either, and are only counted.
+    /// If no second has begun, or the current second is over at `now`, begins a second at `now`, and writes
+    /// how many connections ended in the second before without a line of their own. If there are any, the
+    /// connections of the second that begins get no lines either, and are only counted. Otherwise does
+    /// nothing.
     pub fn finish_second(&self, now: Instant) {
         if self.left(now).is_none() {
             self.shown.set(0);

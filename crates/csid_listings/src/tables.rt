@@ -45,8 +45,8 @@ pub fn store_failure(alloc: Global, path: &str, fault: StoreFault) -> Failure
     }
 }
 
-/// Makes a keeper over the tables on a connection. If there are no tables, makes new tables. The line about a
-/// failure has `path` as the name of the database.
+/// Makes a keeper over the tables on a connection. If there are no tables, makes new tables. Tables of an
+/// older format are upgraded. The line about a failure has `path` as the name of the database.
 ///
 /// # Errors
 ///

@@ -18,7 +18,8 @@ pub struct Chosen<'a> {
     pub node: Option<&'a str>,
 }
 
-/// The task that the command line gives to `csid`.
+/// The task that the command line gives to `csid`. Without a command and an option, it is [`Task::Pipe`] over
+/// volumes in memory.
 #[derive(Clone, Copy)]
 pub enum Task<'a> {
     /// Answer calls from standard input on standard output.
@@ -85,7 +86,7 @@ pub enum Volumes<'a> {
     ChangeStore(&'a str),
 }
 
-/// The options of `csid serve`.
+/// The options of `csid serve`: its socket, the store of its volumes, its configuration and its limits.
 #[derive(Clone, Copy)]
 pub struct Serving<'a> {
     /// The path at which the socket is made.

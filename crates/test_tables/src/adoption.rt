@@ -23,7 +23,8 @@ pub(crate) fn answer(alloc: Global, row: &str) -> Result<String, RowFault> {
     adopt_twice(alloc, without_tables(alloc)?, &config, start, statements)
 }
 
-// Begins the database that `start` names, and runs the statements.
+// Begins the database that `start` names, and runs the statements. After `limited`, each later statement may
+// take one step only, until adopting the tables removes this limit.
 fn begin<S: Alter>(conn: &mut Connection<S>, start: &str, statements: &str) -> Result<(), RowFault>
     requires { conn.old.in_transaction ≡ false }
 {

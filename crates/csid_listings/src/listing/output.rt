@@ -3,7 +3,7 @@
 use csid_settings::Failure;
 use std::io::{ErrorKind, Write};
 
-// The number of bytes that are collected before they are written.
+// The number of bytes that are collected before they are written, so that a long list needs few writes.
 const FULL: usize = 1 << 16;
 
 /// Standard output, written in large pieces. Once its reader has gone, further texts are dropped without a
