@@ -90,9 +90,8 @@ pub fn guessed_id(config: &Config)
 /// ValidateVolumeCapabilities have the same plan before and after these requests. ControllerPublishVolume
 /// also has the same plan, unless it is refused in one of the two States because its node has its maximum of
 /// volumes. ListVolumes and GetCapacity depend on all volumes: they have the same plan if the other requests
-/// only read. A CreateVolume with a new name
-/// has the same size, name and parameters, but its pool and its number come from the later State. So it may
-/// be refused in one of the two States and not in the other.
+/// only read. A CreateVolume with a new name has the same size, name and parameters, but its pool and its
+/// number come from the later State. So it may be refused in one of the two States and not in the other.
 pub fn made_later(config: &Config)
     ensures { (s : State) (r : Request) (others : List Request) → IsInvariant config.now s
         → AllByRecursion (λ q. checked q ≡ None) others → AreOfOtherVolumes config.now s others r

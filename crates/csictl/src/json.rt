@@ -200,7 +200,8 @@ fn ready(alloc: Global, ready: Option<bool>) -> Json {
     json!(in alloc; {"ready": ready})
 }
 
-/// Returns a response as a JSON object with the names of the CSI specification.
+/// Returns a response as a JSON object. The keys are the names of the fields in the CSI specification, in the
+/// mapping of proto3, such as `volumeId`.
 pub(crate) fn response(alloc: Global, response: &Response) -> Json {
     match response {
         Response::PluginInfo { name, version } => {

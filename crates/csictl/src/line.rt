@@ -45,7 +45,7 @@ struct Wire<'a> {
 }
 
 impl<'a> Wire<'a> {
-    // Returns the connection that was kept, or makes a new one.
+    // Begins the time of a try. Returns the connection that was kept, or makes a new one.
     fn connection(&mut self) -> io::Result<Connection<'a>> {
         match self.kept.take() {
             Some(mut connection) => {

@@ -10,7 +10,7 @@ const GROUPS: &str = "/sys/fs/cgroup";
 
 const MEMORY_GROUPS: &str = "/sys/fs/cgroup/memory";
 
-// The size in bytes of a page of memory in `/proc/self/statm`.
+// The size in bytes of the pages of memory that `/proc/self/statm` counts.
 const PAGE_BYTES: u64 = 4096;
 
 // The part of a control group's limit that is left for calls, in bytes. An eighth of the limit is left for

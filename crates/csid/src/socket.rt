@@ -96,9 +96,8 @@ fn report_outcome(console: &Console<'_>, ending: Ending, now: Instant, end: RunE
 }
 
 // Reports how a connection ended. `ending` is the reason if the server ended the turn of the connection. The
-// reason is reported if the turn ended in a read.
-// `is_cut` is true if a reply was held back. Nothing is reported if the calls ended without a fault, or if
-// the clock cannot be read.
+// reason is reported if the turn ended in a read. `is_cut` is true if a reply was held back. Nothing is
+// reported if the calls ended without a fault, or if the clock cannot be read.
 fn report_end(console: &Console<'_>, ending: Option<Ending>, is_cut: bool, end: RunEnd) {
     let Ok(now) = Instant::now(console.rt) else {
         return;

@@ -1,4 +1,5 @@
-//! A connection to a change store that bounds the time of an exchange, however slowly the bytes come.
+//! A connection to a change store that bounds the time of each exchange and of an opening, however slowly the
+//! bytes come.
 
 use std::cell::Cell;
 use std::io::{self, ErrorKind, Read, Write};
@@ -103,11 +104,12 @@ impl Drop for TimedStream {
 }
 
 impl TimedStream {
-    /// Connects to a socket. After the deadline has passed, reads and writes of the connection fail.
+    /// Connects to a socket. After the deadline has passed, reads and writes of the connection fail. The
+    /// deadline does not bound how long connecting takes.
     ///
     /// # Errors
     ///
-    /// If connecting fails.
+    /// If no program listens at `path`, the system refuses the connection, or memory is refused.
     pub(crate) fn connect(
         rt: &HostRuntime,
         path: &str,

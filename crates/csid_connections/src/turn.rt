@@ -256,8 +256,9 @@ pub struct Turn<'a> {
 }
 
 impl<'a> Turn<'a> {
-    /// Begins the turn of a connection that has sent bytes. While no other connection is ready, a read or a
-    /// write of the stream may block for up to a second, and then the queue is polled.
+    /// Begins the turn of a connection that was in the queue, and the time of the turn. While no other
+    /// connection is ready, a read or a write of the stream may block for up to a second, and then the queue
+    /// is polled.
     ///
     /// # Errors
     ///

@@ -97,7 +97,7 @@ fn put_long_bytes(out: &mut Vec<u8>, number: u32, bytes: &[u8]) -> Result<(), Al
 }
 
 /// Appends a field that has bytes (wire type 2), such as a text or an embedded message. `number` must be from
-/// 1 to 536,870,911. If memory is refused, the vector is unchanged.
+/// 1 to 536,870,911. The vector grows at most once. If memory is refused, the vector is unchanged.
 #[inline(always)]
 pub fn put_bytes(out: &mut Vec<u8>, number: u32, bytes: &[u8]) -> Result<(), AllocError>
     requires { (1 ≤ number) × (number < 2 ^ 29) }

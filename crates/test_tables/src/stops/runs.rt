@@ -173,8 +173,8 @@ impl Wanted<'_> {
     /// Compares the reply and the State after a run with the reply and the State of a run without a stop.
     /// These rules must hold:
     ///
-    /// - The reply is empty, the reply of a run without a stop, or a refusal with the status INTERNAL. If no file
-    ///   stopped, it is the reply of a run without a stop.
+    /// - The reply is empty, the reply of a run without a stop, or a refusal with the status INTERNAL. If no
+    ///   file stopped, it is the reply of a run without a stop.
     /// - If the call was answered as without a stop, or if no file stopped, the next start finds the State
     ///   after the call. Otherwise it finds the State before or after the call.
     /// - The same call, made again, gets the reply and leaves the State of a run without a stop.
