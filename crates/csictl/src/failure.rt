@@ -49,8 +49,8 @@ impl Ended {
 /// The reason why the program fails. Its `Display` is the line on standard error.
 #[derive(Debug, Drop, Error)]
 pub(crate) enum Failure {
-    /// The command line is not valid, help or the version could not be written, or memory for the arguments
-    /// was refused.
+    /// The command line is not valid, help or the version could not be written, or memory was refused while
+    /// the arguments were parsed. The exit status is 2, 5 or 6.
     #[error("{0}")]
     Arguments(#[from] ArgumentsFault),
     /// No method has this name.

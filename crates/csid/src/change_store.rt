@@ -347,8 +347,8 @@ fn read_over_memory<P: Peer + Drop>(
     read_change_store(console, config, path, change_store, conn)
 }
 
-// Connects to a change store. Returns the connection, and a peer over the connection that records its
-// exchanges.
+// Connects to a change store, and begins the time of the opening. Returns the connection, and a peer over the
+// connection that records its exchanges.
 fn reach(
     rt: &HostRuntime,
     path: &str,

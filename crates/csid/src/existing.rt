@@ -111,7 +111,7 @@ struct Pages {
 }
 
 // Reads the header of a file. The size of a page is at offset 16, where 1 means 65,536, and the number of
-// free pages is at offset 36.
+// free pages is at offset 36. Fails if the file cannot be read or has fewer than 105 bytes.
 fn pages_of(rt: &HostRuntime, path: &str) -> io::Result<Pages> {
     let mut head = [0; HEADER_BYTES];
     File::open(rt, path)?.read_exact(&mut head)?;

@@ -297,7 +297,8 @@ fn existing_change_store(
     open_change_store(console, config, path)
 }
 
-// Answers the calls of a connection over an open change store, and returns the change store.
+// Answers the calls of a connection over an open change store, and returns the change store. Reports if a
+// change was refused, or if the copy in memory lacks a change.
 fn serve_open(
     service: &Service<'_>,
     waiting: &mut Waiting,

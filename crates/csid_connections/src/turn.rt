@@ -197,7 +197,8 @@ impl<S: Stream> Steps<'_, S> {
         }
     }
 
-    // Reads the next bytes, and waits for them if necessary.
+    // Reads the next bytes, and waits for them if necessary. Returns 0 at the end of the stream. Fails if the
+    // server ends the turn, or the stream or the clock cannot be read.
     fn read<R: Read>(&mut self, reader: &mut R, buf: &mut [u8]) -> io::Result<usize>
         ensures bound { ReadsAtMost result buf.new }
         ensures bytes { ReadConsumes (R.remaining reader.old) (R.remaining reader.new) result buf.new }
@@ -219,7 +220,8 @@ impl<S: Stream> Steps<'_, S> {
         Err(io::Error::from(ErrorKind::TimedOut))
     }
 
-    // Writes as many bytes as the stream takes, and waits until it takes bytes if necessary.
+    // Writes as many bytes as the stream takes, and waits until it takes bytes if necessary. Fails if the
+    // server ends the turn, the stream cannot be written, or the clock cannot be read.
     fn write<W: Write>(&mut self, writer: &mut W, buf: &[u8]) -> io::Result<usize>
         ensures bound { WritesAtMost result buf.now }
         ensures bytes { WriteAppends (W.contents writer.old) (W.contents writer.new) result buf.now }

@@ -44,8 +44,8 @@ pub enum Failure {
     /// does. The exit status is 1.
     #[error("{0}")]
     Malformed(FrameFault),
-    /// The command line is not valid, help or the version could not be written, or memory for the arguments
-    /// was refused.
+    /// The command line is not valid, help or the version could not be written, or memory was refused while
+    /// the arguments were parsed. The exit status is 2, 5 or 6.
     #[error("{0}")]
     Arguments(#[from] ArgumentsFault),
     /// A resource cannot be used. The value has the name of the resource and the reason. The exit status is
