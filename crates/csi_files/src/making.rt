@@ -38,7 +38,7 @@ const HEAD: [u8; 108] = *b"SQLite format 3\0\
     \0\0\0\0\0\0\0\0\0\0\0\0\0\0\0\0\
     \x00\x2e\x76\x88\x0d\0\0\0\0\x04\0\0";
 
-/// The reason why no database was made.
+/// The reason for which [`lay_out`] fails.
 #[derive(Clone, Copy, Debug)]
 pub enum NotLaidOut {
     /// The database file is empty, but its WAL is long enough to contain changes, which a new database would

@@ -29,9 +29,13 @@ pub trait Observer {
     fn refused(&self, cause: &Error);
 
     /// Returns true if the process has memory for its calls and for the next opening of the tables, which
-    /// takes `opening` bytes. A run calls this function before each page of volumes that it copies into
-    /// memory, and as the tables grow. If the function returns false, the volumes are not copied, and a
-    /// change that adds rows or sets parameters fails as if memory were refused.
+    /// takes `opening` bytes. A run calls this function at these times:
+    ///
+    /// - before each page of volumes that it copies into memory. If the result is false, the volumes are not
+    ///   copied.
+    /// - before a change that adds rows or sets parameters, if it is the first such change, if the memory of
+    ///   the next opening has grown by 256 KiB since the last result true, or if the last result was false.
+    ///   If the result is false, the change fails as if memory were refused.
     ///
     /// An implementation must count limits at which the process is killed, such as the memory limit of a
     /// Linux control group. It need not count limits at which an allocation fails.
