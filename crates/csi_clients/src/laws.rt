@@ -41,9 +41,9 @@ use csi_types::laws::{inclusions, overlays};
 /// The law starts in a State that meets the invariant, with requests that pass the checks of their arguments.
 /// A request is answered OK (`taken`). If it also changes nothing, since its change exists already, it need
 /// not pass the checks (`found`). After it, other clients make any requests that leave its object alone. If
-/// the first request is then made again, it is answered with the same body and changes nothing. It does not
-/// matter whether the client heard the first answer: the reply may be lost, or the call may be refused and a
-/// stop may leave the State with its change.
+/// the first request is then made again, it is answered with the same body and changes nothing. The client
+/// need not have heard the first answer: the reply may be lost, or the call may be refused and a stop may
+/// leave the State with its change.
 ///
 /// The object of a CreateVolume is the volume with its name, including the mutable parameters that the
 /// request gives. The object of a DeleteVolume is the volume id. The object of a publish or an unpublish is

@@ -34,8 +34,8 @@ pub(crate) fn check_tables(
     csid_listings::check_tables(console, path, &config)
 }
 
-/// Writes a list of the volumes in a file of tables that pass the filter `chosen` on standard output, in JSON
-/// if `is_json` is true.
+/// Lists the volumes in a file of tables that pass the filter `chosen`. Writes the list to standard output,
+/// in JSON if `is_json` is true, otherwise in columns.
 ///
 /// # Errors
 ///

@@ -144,7 +144,7 @@ impl<O: Observer> TablesRun<'_, O> {
     }
 }
 
-/// An observer that reports nothing. The replies are the same as with any other observer.
+/// An observer that reports nothing. It asks the gauge if there is room, as the observer of a socket does.
 #[derive(Clone, Copy)]
 pub(crate) struct SilentObserver<'a> {
     /// The gauge of this process's memory, which answers `has_room`.

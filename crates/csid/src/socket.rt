@@ -488,7 +488,7 @@ fn next_peer(service: &Service<'_>, waiting: &mut Waiting) -> Result<Option<Pend
 ///
 /// If the file of tables or the group is refused, the socket cannot be bound or accepts no connection, the
 /// system refuses to wait for connections, the clock cannot be read, or memory is refused. A failure of one
-/// connection, or of the tables or the change store after the start, is only reported.
+/// connection is only reported, and so is a failure to open the tables or the change store.
 pub(crate) fn serve_socket<'a>(
     console: &'a Console<'a>,
     config: &'a Config,

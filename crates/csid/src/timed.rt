@@ -12,7 +12,7 @@ use std::time::{Duration, Instant};
 const EXCHANGE_SECONDS: u64 = 30;
 
 // The greatest number of seconds for reading all rows in an opening. Each page of rows is an exchange of its
-// own, so many slow exchanges could otherwise delay the server without an end.
+// own, so many slow exchanges could otherwise delay the server for very long.
 const ROWS_SECONDS: u64 = 300;
 
 /// The deadlines of a connection to a change store: for the current exchange, and for the opening.

@@ -60,7 +60,8 @@ pub struct FirstBytes {
 pub struct Pending {
     /// The stream. Its reads and writes do not block while the connection is in the queue.
     pub stream: UnixStream,
-    /// The bytes that were read from the stream so far. The server of the connection reads them first.
+    /// The bytes that were read from the stream so far. When the connection is served, these bytes come
+    /// first.
     pub first: FirstBytes,
 }
 
