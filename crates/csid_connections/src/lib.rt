@@ -4,9 +4,9 @@
 //! # Not promised
 //!
 //! The contracts do not say what a socket gives, takes or refuses, or when a wait of the system ends. They do
-//! not say that the two ends of a [`Turn`] share one clock: the clock is in a `RefCell`, and a contract cannot
-//! state the content of a `RefCell`. They allow that a connection without a call is closed with the ending
-//! `Failed`, even if no read of it failed.
+//! not say that the two ends of a [`Turn`] share one clock: the clock is in a `RefCell`, and a contract
+//! cannot state the content of a `RefCell`. They allow that a connection without a call is closed with the
+//! ending `Failed`, even if no read of it failed.
 //!
 //! # How it works
 //!
