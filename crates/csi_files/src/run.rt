@@ -52,8 +52,9 @@ pub struct RunOptions {
     pub is_low_memory: bool,
     /// The memory in bytes that an opening of the tables takes, since an opening reads each table whole.
     /// While reads are answered from the file, this memory is held for the next opening, as far as the system
-    /// gives it. A call that adds rows or sets parameters first holds memory for the bytes that it adds. The
-    /// call fails if this memory is refused or the observer has no room.
+    /// gives it. A call that adds rows or sets parameters then first holds memory for the bytes that it adds,
+    /// and fails if this memory is refused. While reads are answered from a copy, no memory is held. In both
+    /// cases, such a call fails if the observer has no room ([`Observer::has_room`]).
     pub reserve: usize,
 }
 

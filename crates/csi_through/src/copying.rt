@@ -168,9 +168,10 @@ fn restore_all<K: Keeper>(
 ///
 /// # Errors
 ///
-/// Returns the fault of a read, or `NoMemory` if an allocation is refused. If a number or a size is out of
-/// bounds, returns `Refused`. Only a store that returns other values than were written has such a number or
-/// size. So if the State meets the invariant, each `Refused` comes from a read of the keeper.
+/// Returns the fault of a read, or `NoMemory` if an allocation is refused. Returns `Refused` for a next
+/// number above 2^62, a volume with a number of 2^62 or more, or a size above 2^62 bytes. Only a store that
+/// returns other values than were written has such a number or size. So if the State meets the invariant,
+/// each `Refused` comes from a read of the keeper.
 pub(crate) fn copy_of<K: Keeper>(alloc: Global, keeper: &mut K) -> Result<MemKeeper, StoreFault>
     ensures keeper_unchanged { IsQuiet (K.model keeper.old) (K.model keeper.new) }
     ensures copy { IfOk result (λ memory. IsCopy (K.model keeper.old) (K.model keeper.new) memory) }

@@ -430,7 +430,8 @@ fn pipe_task<'a>(arguments: &ArgMatches<'a>) -> Piped<'a> {
     }
 }
 
-/// Returns the task of arguments that [`read_arguments`] has accepted.
+/// Returns the task of arguments that [`read_arguments`] has accepted, and in which [`odd_number`],
+/// [`odd_check`] and [`odd_store`] find no fault.
 pub fn task_of<'a>(matches: &ArgMatches<'a>) -> Task<'a> {
     match matches.subcommand() {
         Some(("serve", arguments)) => Task::Serve(serve_task(arguments)),
