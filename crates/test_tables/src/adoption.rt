@@ -16,6 +16,11 @@ use test_kit::RowFault;
 
 /// Answers a test row: begins the database that the test row names, runs its statements, and adopts the
 /// tables twice under its configuration.
+///
+/// # Errors
+///
+/// If the row has no such form, the database refuses a statement, or memory is refused. A fault of the
+/// adoption is an answer.
 pub(crate) fn answer(alloc: Global, row: &str) -> Result<String, RowFault> {
     let (how, statements) = row.split_once(" |").ok_or(RowFault::NotRow)?;
     let (start, config) = how.split_once(' ').ok_or(RowFault::NotRow)?;

@@ -22,7 +22,13 @@ pub(crate) struct Trials<'a> {
     pub(crate) kept: &'a [String],
 }
 
-/// Returns the State before the first call of a stream, and then the State after each call.
+/// Returns the State before the first call of a stream, and then the State after each call. Each State is the
+/// State after a run over the calls up to this call.
+///
+/// # Errors
+///
+/// If the name or the version of the server is too long, the server reads after a fault or a failed write, or
+/// memory is refused.
 pub(crate) fn kept_after_each(
     alloc: Global,
     server: Server<'_>,
