@@ -147,7 +147,8 @@ impl<'a> Connection<'a> {
     ///
     /// # Errors
     ///
-    /// If connecting fails or times out, or memory is refused.
+    /// If no program listens at `path`, connecting takes longer than `timeout`, the system refuses the
+    /// connection or to poll it, the clock cannot be read, or memory is refused.
     pub(crate) fn new(
         rt: &'a HostRuntime,
         path: &str,

@@ -23,7 +23,8 @@ fn check_readable(rt: &HostRuntime, path: &str) -> Result<(), Failure>
 ///
 /// # Errors
 ///
-/// If the configuration or the tables are refused, the counts cannot be written, or memory is refused.
+/// If the configuration or the tables cannot be read or are refused, the counts cannot be written, or memory
+/// is refused.
 pub(crate) fn check_tables(
     console: &Console<'_>,
     path: &str,
@@ -56,8 +57,8 @@ pub(crate) fn list_tables(
 ///
 /// # Errors
 ///
-/// If the configuration or the tables are refused, a file exists at `to`, the copy or the counts cannot be
-/// written, or memory is refused.
+/// If the configuration or the tables cannot be read or are refused, a file exists at `to` or at the path
+/// `to` with `.new` at its end, the copy or the counts cannot be written, or memory is refused.
 pub(crate) fn copy_tables(
     console: &Console<'_>,
     path: &str,

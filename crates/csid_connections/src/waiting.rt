@@ -101,7 +101,7 @@ impl Waiting {
     ///
     /// # Errors
     ///
-    /// If the system refuses to poll the socket, or memory is refused.
+    /// If the system refuses to make the socket non-blocking or to poll it, or memory is refused.
     pub fn new(
         rt: &HostRuntime,
         listener: UnixListener,

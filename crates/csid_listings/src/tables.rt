@@ -50,7 +50,7 @@ pub fn store_failure(alloc: Global, path: &str, fault: StoreFault) -> Failure
 ///
 /// # Errors
 ///
-/// If the tables are refused, or memory is refused.
+/// If the tables are refused, the database fails, or memory is refused.
 pub fn keeper_over<S: Alter + Drop>(
     rt: &HostRuntime,
     path: &str,
