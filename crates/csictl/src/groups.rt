@@ -265,7 +265,7 @@ impl Groups {
         Ok(())
     }
 
-    // Counts a volume in its group. Returns false if the group does not exist.
+    // Counts a volume in its group, and returns true. If the group does not exist, only returns false.
     fn is_counted(
         &mut self,
         alloc: Global,

@@ -101,7 +101,7 @@ impl CallClock {
     }
 
     /// Notes that a write of a reply waits. Returns true for the first such write, which begins the time of
-    /// the reply.
+    /// the reply, and false for each later write of the same reply.
     pub(crate) fn begin_reply(&mut self) -> bool
         ensures { BeginsReply self.old self.new result }
     {
