@@ -130,7 +130,8 @@ fn write_copy(rt: &HostRuntime, to: &str, bytes: &[u8]) -> Result<(), Failure>
 /// Copies the tables in the file at `path` into a new file at `to`, and writes their counts on standard
 /// output. The copy has the tables as they were committed at one moment, and needs no WAL. It is checked
 /// under the configuration before the new file gets the name `to`. The file at `path` is only read, and a
-/// server may have it open.
+/// server may have it open. On a file system without hard links, a file that another process makes at `to`
+/// during the copy is replaced.
 ///
 /// # Errors
 ///
