@@ -62,8 +62,8 @@ fn say_no_memory(rt: &HostRuntime, program: &str) -> io::Result<()> {
 }
 
 /// Writes one line to standard error: the program's name, a colon, and the text of `what`. Each line end and
-/// each other control character in the text is escaped, as `\n` or `\u{1b}`. If the write fails, the error is
-/// ignored.
+/// each other control character in the text is escaped, as `\n` or `\u{1b}`. If memory for the line is
+/// refused, the text is `out of memory`. If the write fails, the error is ignored.
 pub fn say<T: Display>(rt: &HostRuntime, program: &str, what: &T) {
     let _ = match error_line(rt.alloc(), program, what) {
         Ok(line) => rt.stderr().write_all(line.as_bytes()),

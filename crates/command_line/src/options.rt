@@ -36,7 +36,7 @@ pub struct CommandOption {
 }
 
 impl CommandOption {
-    /// Returns true if the option takes a number.
+    /// Returns true if the option takes a number: [`Takes::Number`], [`Takes::Bytes`] or [`Takes::Count`].
     pub fn is_number(&self) -> bool {
         matches!(
             self.takes,

@@ -70,8 +70,8 @@ fn in_halves(alloc: Global, halves: u64, unit: &str) -> Result<String, AllocErro
     format!(in alloc; "{whole}{half} {unit}")
 }
 
-// Returns a size as a text in the first of these units that shows it exactly with at most one decimal. If no
-// unit does, the text is in bytes.
+// Returns a size as a text in the first of these units that is at most the size and shows it exactly with at
+// most one decimal. If there is none, the text is in bytes.
 fn text_in(alloc: Global, units: &[Unit], bytes: u64) -> Result<String, AllocError>
     ensures { IfOk result (λ text. string_bytes text ≡ size_text units.now bytes) }
 {

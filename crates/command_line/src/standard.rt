@@ -10,7 +10,8 @@ use std::os::fd::AsRawFd;
 const NEXT: i32 = 3;
 
 // Opens a folder, which gets the lowest descriptor that is closed. A folder can be neither read nor written
-// as a file, so it behaves like a closed descriptor.
+// as a file, so it behaves like a closed descriptor. Returns `None` if the three descriptors are open, or if
+// the folder cannot be opened.
 fn in_place(rt: &HostRuntime) -> Option<File>
     ensures { IfSome result (λ file. file_raw_fd file <ℤ pos 3) }
 {
@@ -20,8 +21,9 @@ fn in_place(rt: &HostRuntime) -> Option<File>
 
 /// Opens folders in place of standard input, output and error, if they are closed. So a file or a connection
 /// that is opened later gets none of the three descriptors, and text for standard output or standard error is
-/// never written to it. Reads and writes of the folders fail, as with closed descriptors. A program calls
-/// this function first, and keeps the result until it ends.
+/// never written to it. Reads and writes of the folders fail, as with closed descriptors. The result has one
+/// folder for each descriptor that was closed, unless the folder could not be opened, and `None` in the other
+/// places. A program calls this function first, and keeps the result until it ends.
 pub fn occupy_closed(rt: &HostRuntime) -> [Option<File>; 3]
     ensures { All (λ place. IfSome place (λ file. file_raw_fd file <ℤ pos 3)) result }
 {

@@ -39,10 +39,11 @@ use csi_types::laws::{inclusions, overlays};
 /// A request that took effect remains in effect while other requests leave its object alone.
 ///
 /// The law starts in a State that meets the invariant, with requests that pass the checks of their arguments.
-/// A request is answered OK, or its change exists already. After it, other clients make any requests that
-/// leave its object alone. If the first request is then made again, it is answered with the same body and
-/// changes nothing. It does not matter whether the client heard the first answer: the reply may be lost, or
-/// the call may be refused and a stop may leave the State with its change.
+/// A request is answered OK (`taken`). If it also changes nothing, since its change exists already, it need
+/// not pass the checks (`found`). After it, other clients make any requests that leave its object alone. If
+/// the first request is then made again, it is answered with the same body and changes nothing. The client
+/// need not have heard the first answer: the reply may be lost, or the call may be refused and a stop may
+/// leave the State with its change.
 ///
 /// The object of a CreateVolume is the volume with its name, including the mutable parameters that the
 /// request gives. The object of a DeleteVolume is the volume id. The object of a publish or an unpublish is
@@ -87,9 +88,10 @@ pub fn guessed_id(config: &Config)
 /// The law starts in a State that meets the invariant, and other clients make requests that pass the checks
 /// of their arguments. DeleteVolume, ControllerUnpublishVolume, ControllerModifyVolume and
 /// ValidateVolumeCapabilities have the same plan before and after these requests. ControllerPublishVolume
-/// also has the same plan, unless its node is full in one of the two States. A CreateVolume with a new name
-/// has the same size, name and parameters, but its pool and its number come from the later State. So it may
-/// be refused in one of the two States and not in the other.
+/// also has the same plan, unless it is refused in one of the two States because its node has its maximum of
+/// volumes. ListVolumes and GetCapacity depend on all volumes: they have the same plan if the other requests
+/// only read. A CreateVolume with a new name has the same size, name and parameters, but its pool and its
+/// number come from the later State. So it may be refused in one of the two States and not in the other.
 pub fn made_later(config: &Config)
     ensures { (s : State) (r : Request) (others : List Request) → IsInvariant config.now s
         → AllByRecursion (λ q. checked q ≡ None) others → AreOfOtherVolumes config.now s others r

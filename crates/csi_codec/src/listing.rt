@@ -54,7 +54,7 @@ pub struct ListedEntry<'a> {
     pub number: u64,
     /// The context and the topology of the volume's pool, already encoded.
     pub placement: &'a Placement,
-    /// The ids of the nodes to which the volume is published.
+    /// The ids of the nodes to which the volume is published, in the order in which they are encoded.
     pub nodes: &'a Items<Text>,
 }
 

@@ -16,10 +16,10 @@ use std::alloc::{AllocError, Global};
 /// Decodes the request of this method (Protocol Buffers encoding guide; CSI specification, csi.proto).
 ///
 /// Fields may come in any order, and unknown fields are skipped. If a field occurs more than once, the result
-/// depends on its kind. For a number or a text, the last occurrence counts. An embedded message is merged
-/// from all occurrences. In a repeated field, each occurrence is one element. In a map, the last entry with a
-/// key counts. Of the members of a oneof, the member that occurs last counts. All bytes are checked for
-/// faults before memory is taken.
+/// depends on its kind. For a number, a flag or a text, the last occurrence counts. An embedded message is
+/// merged from all occurrences. In a repeated field, each occurrence is one element. In a map, the last entry
+/// with a key counts. Of the members of a oneof, the member that occurs last counts. All bytes are checked
+/// for faults before memory is taken.
 ///
 /// # Errors
 ///
@@ -34,7 +34,8 @@ pub fn decode(alloc: Global, method: Method, bytes: &[u8]) -> Result<Request, De
     decode_by_method(alloc, method, bytes)
 }
 
-/// Decodes a `CreateVolumeRequest`. [`decode`] describes which fields the bytes may have.
+/// Decodes a `CreateVolumeRequest`. The order of fields, unknown fields and fields that occur more than once
+/// are treated as in [`decode`].
 ///
 /// # Errors
 ///
@@ -106,8 +107,8 @@ fn write_request(request: &Request, out: &mut Vec<u8>) -> Result<(), AllocError>
 /// Appends the encoding of the request, in one fixed form:
 ///
 /// - Field numbers rise, and each varint has its least length.
-/// - A number that is 0, a flag that is false and an empty text are left out. A message that is present is
-///   written even if it is empty.
+/// - A number that is 0, a flag that is false and an empty text are left out. A message that is present, and
+///   each element of a repeated field, is written even if it is empty.
 /// - Map entries come in byte order of their keys, and both the key and the value are written.
 ///
 /// # Errors

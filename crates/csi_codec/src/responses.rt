@@ -16,9 +16,9 @@ use pbwire::laws::spelled;
 use std::alloc::{AllocError, Global};
 
 /// Decodes the response of this method. Fields may come in any order, and unknown fields are skipped. If a
-/// number or a text occurs more than once, the last occurrence counts. An embedded message is merged from all
-/// its occurrences. In a repeated field, each occurrence is one element. In a map, the last entry with a key
-/// counts.
+/// number, a flag or a text occurs more than once, the last occurrence counts. An embedded message is merged
+/// from all its occurrences. In a repeated field, each occurrence is one element. In a map, the last entry
+/// with a key counts. Of the members of a oneof, the member that occurs last counts.
 ///
 /// # Errors
 ///

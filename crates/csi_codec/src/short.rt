@@ -91,7 +91,7 @@ fn put_id(buffer: &mut [u8], end: usize, prefix: &str, number: u64) -> usize
 /// Writes an entry without nodes into the last bytes of the buffer, and returns the offset of its first byte.
 /// The nodes in `entry` are ignored.
 ///
-/// Returns `None` in these cases:
+/// Returns `None` in these cases, and may then have changed the buffer:
 ///
 /// - the prefix of the id is empty or has more than 16 bytes
 /// - the ending of the placement has more than 123 bytes

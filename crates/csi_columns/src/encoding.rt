@@ -104,8 +104,8 @@ pub fn write_caps(alloc: Global, keys: &[CapKey]) -> Result<Vec<u8>, AllocError>
     Ok(out)
 }
 
-/// Encodes parameters and mutable parameters into the canonical bytes of the column `params`. Mutable
-/// parameters that are empty add no bytes.
+/// Encodes parameters and mutable parameters into the canonical bytes of the column `params`. Each of the two
+/// maps adds no bytes if it is empty.
 ///
 /// # Errors
 ///

@@ -63,7 +63,7 @@ enum Source<'a, S: Alter, O> {
 }
 
 // Copies the volumes in the tables into memory. While the copy is made, 4 MiB of memory are held back for
-// calls.
+// calls. If they are refused, fails with `NoMemory`.
 fn copy_tables<'a, S: Alter + Drop, O: Observer>(
     run: &Run<'a, O>,
     tables: Tables<S>,

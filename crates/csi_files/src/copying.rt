@@ -31,7 +31,8 @@ fn has_wal<D: Disk>(pair: &mut Files<D>) -> io::Result<bool>
     Ok(len >= LEAST_WAL_BYTES)
 }
 
-// Recovers the WAL, copies its committed frames into the database file, and cuts the WAL to 41 bytes.
+// Recovers the WAL, copies its committed frames into the database file, and cuts the WAL to 41 bytes. A WAL
+// of 41 bytes has no frame, so recovery ignores it.
 fn copy_frames<D: Disk>(log: &mut Log<D>) -> Result<(), wal::Error>
     requires { AreUsable log.old }
     ensures keeps { CopiesLog log.old log.new }
@@ -107,7 +108,8 @@ pub(crate) fn copy_wal<D: Disk>(
     }
 }
 
-/// Converts an error of copying the WAL to a [`StoreError`]; an I/O error of the disk becomes `fault`.
+/// Converts an error of copying the WAL to a [`StoreError`]. An I/O error of the disk becomes `fault`.
+/// Refused memory and a full disk keep their own errors, and each other error becomes `Io`.
 pub(crate) fn cause_of(error: wal::Error, fault: StoreError) -> StoreError
     ensures { result ≡ cause_of error fault }
 {

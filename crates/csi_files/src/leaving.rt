@@ -71,7 +71,7 @@ pub(crate) fn close<D: Disk + Drop>(
     }
 }
 
-/// Closes a connection and copies the WAL into the database file. If the copy fails, returns the files
+/// Closes a connection and copies the WAL into the database file. If [`close`] would fail, returns the files
 /// without an error: the last commit is in the WAL, in the database file or in both. `seed` is the seed of
 /// the random salts in the next header of the WAL.
 pub(crate) fn close_or_leave<D: Disk + Drop>(

@@ -38,7 +38,7 @@ const HEAD: [u8; 108] = *b"SQLite format 3\0\
     \0\0\0\0\0\0\0\0\0\0\0\0\0\0\0\0\
     \x00\x2e\x76\x88\x0d\0\0\0\0\x04\0\0";
 
-/// The reason why no database was made.
+/// The reason for which [`lay_out`] fails.
 #[derive(Clone, Copy, Debug)]
 pub enum NotLaidOut {
     /// The database file is empty, but its WAL is long enough to contain changes, which a new database would
@@ -111,7 +111,7 @@ fn make<D: Disk>(alloc: Global, pair: Files<D>, seed: u64) -> Result<Files<D>, (
 // The kinds of files, by their lengths alone, so that no page is read or synced.
 #[derive(Clone, Copy)]
 enum Lengths {
-    // The database file is longer than a page.
+    // The database file is longer than `PAGE_BYTES`, the length of a database without tables.
     Larger,
     // The database file is empty, and its WAL is long enough to contain changes.
     Emptied,
@@ -263,7 +263,8 @@ fn failed(error: io::Error) -> NotLaidOut
 /// stop interrupted. Other files are unchanged. After a stop at any moment, the next call makes the database.
 ///
 /// If an earlier release was stopped while it wrote the first page, the file has only bytes of 0, or the
-/// beginning of the page, and no WAL. The call clears such a file first.
+/// beginning of the page, and no WAL. The call clears such a file first. `seed` is the seed of the random
+/// salts in the header of the WAL.
 ///
 /// # Errors
 ///

@@ -100,7 +100,8 @@ impl<O: Observer> Run<'_, O> {
     /// - `NotOpened` or `Refused`: the files were not opened, or their database was refused. No call was
     ///   read.
     /// - `Left`: the store refused a call.
-    /// - `NotClosed`: copying the WAL into the database file failed after the calls.
+    /// - `NotClosed`: after the calls, copying the WAL into the database file failed, or the files cannot be
+    ///   used after an earlier fault.
     ///
     /// # Not promised
     ///

@@ -68,7 +68,7 @@ pub(crate) fn room(alloc: Global) -> Result<Vec<Vec<u8>>, AllocError>
 // there is room.
 const STEP_BYTES: usize = 1 << 18;
 
-// The memory that is held for the next opening.
+// The memory that the next opening takes, and the blocks that are held for it.
 struct Reserve {
     alloc: Global,
     blocks: Vec<Vec<u8>>,
@@ -194,10 +194,10 @@ fn bytes_of(change: &Change) -> usize
     }
 }
 
-/// Tables, and memory that is held for the next opening of their file. A change that adds rows or sets
-/// parameters needs more of this memory, and reserves it first. If the memory is refused, or the observer has
-/// no room, the change is not made and fails with `NoMemory`, but the tables do not go down. A change that
-/// removes rows reserves no memory.
+/// Tables, and the memory that the next opening of their file takes. The memory is held, unless the tables
+/// are copied into memory. A change that adds rows or sets parameters needs more of this memory, and reserves
+/// it first. If the memory is refused, or the observer has no room, the change is not made and fails with
+/// `NoMemory`, but the tables do not go down. A change that removes rows reserves no memory.
 ///
 /// While tables are copied into memory, reading a page of volumes fails with `NoMemory` if the observer has
 /// no room.

@@ -20,7 +20,8 @@ pub trait Observer {
     /// Called after the tables were adopted, with the counts of their rows. No call was read yet.
     fn adopted(&self, content: &Content);
 
-    /// Called if memory has no room for a copy of the volumes. Each read is then answered from the file.
+    /// Called if a copy of the volumes was tried and memory has no room for it. Each read is then answered
+    /// from the file. Not called if the options forbid a copy.
     fn uncopied(&self);
 
     /// Called if the database refused any call: after the last call, or after a failed copy of the volumes.
@@ -28,9 +29,13 @@ pub trait Observer {
     fn refused(&self, cause: &Error);
 
     /// Returns true if the process has memory for its calls and for the next opening of the tables, which
-    /// takes `opening` bytes. A run calls this function before each page of volumes that it copies into
-    /// memory, and as the tables grow. If the function returns false, the volumes are not copied, and a
-    /// change that adds rows or sets parameters fails as if memory were refused.
+    /// takes `opening` bytes. A run calls this function at these times:
+    ///
+    /// - before each page of volumes that it copies into memory. If the result is false, the volumes are not
+    ///   copied.
+    /// - before a change that adds rows or sets parameters, if it is the first such change, if the memory of
+    ///   the next opening has grown by 256 KiB since the last result true, or if the last result was false.
+    ///   If the result is false, the change fails as if memory were refused.
     ///
     /// An implementation must count limits at which the process is killed, such as the memory limit of a
     /// Linux control group. It need not count limits at which an allocation fails.
@@ -47,8 +52,9 @@ pub struct RunOptions {
     pub is_low_memory: bool,
     /// The memory in bytes that an opening of the tables takes, since an opening reads each table whole.
     /// While reads are answered from the file, this memory is held for the next opening, as far as the system
-    /// gives it. A call that adds rows or sets parameters first holds memory for the bytes that it adds. The
-    /// call fails if this memory is refused or the observer has no room.
+    /// gives it. A call that adds rows or sets parameters then first holds memory for the bytes that it adds,
+    /// and fails if this memory is refused. While reads are answered from a copy, no memory is held. In both
+    /// cases, such a call fails if the observer has no room ([`Observer::has_room`]).
     pub reserve: usize,
 }
 
@@ -100,7 +106,8 @@ pub enum Refusal {
     Blank,
     /// The tables were not adopted, because of this fault.
     NotAdopted(AdoptFault),
-    /// The store refused a read while the volumes were copied into memory.
+    /// The store refused a read while the volumes were copied into memory. The fault is never `NoMemory`: if
+    /// memory is refused, the run goes on without a copy.
     NotCopied(StoreFault),
 }
 
@@ -116,8 +123,9 @@ pub enum RunFailure<D: Disk> {
     /// Calls were served, but the store refused some of them. The WAL was copied into the database file if
     /// the disk and memory allowed it. The committed changes are in the WAL, in the database file or in both.
     Left(RunReport, Files<D>),
-    /// Calls were served, but copying the WAL into the database file failed with this error. The committed
-    /// changes are in the WAL, in the database file or in both.
+    /// Calls were served, but copying the WAL into the database file failed with this error. The error is
+    /// `Closed` if the copy was not tried, since an earlier fault had shut the store or a sync had failed.
+    /// The committed changes are in the WAL, in the database file or in both.
     NotClosed(RunReport, Error, Files<D>),
 }
 

@@ -50,9 +50,9 @@ impl<O: Observer> Run<'_, O> {
     /// Serves the volume machine over the database of two open files: adopts their tables, serves calls, and
     /// closes the files.
     ///
-    /// A database without tables gets new tables, unless the options require existing tables. If memory has
-    /// no room for a copy of the volumes, reads are answered from the file. A change is committed to the file
-    /// before its call is answered.
+    /// A database without tables gets new tables, unless the options require existing tables. Reads are
+    /// answered from a copy of the volumes in memory. If the options forbid a copy, or memory has no room for
+    /// it, they are answered from the file. A change is committed to the file before its call is answered.
     ///
     /// The contract holds for any bytes that the files had when they were opened (`Opens`). `seed` is the
     /// seed of the random salts in the next header of the WAL.
@@ -61,7 +61,8 @@ impl<O: Observer> Run<'_, O> {
     ///
     /// - `Refused`: the database is refused. No call was read.
     /// - `Left`: the store refused a call.
-    /// - `NotClosed`: copying the WAL into the database file failed after the calls.
+    /// - `NotClosed`: after the calls, copying the WAL into the database file failed, or the files cannot be
+    ///   used after an earlier fault.
     pub fn adopt_and_serve<D: Disk + Drop, R: Read, W: Write>(
         &self,
         conn: Connection<FileStore<D>>,

@@ -68,8 +68,9 @@ impl<O: Observer> Run<'_, O> {
     /// `csi_server::serve` states which bytes are read and written, how the run ends and which calls it
     /// counts. After the run the files have the State after these calls. A first run starts from the first
     /// State, also if a stop interrupted the making of the database (`MayStart`). Files without tables get
-    /// new tables and the first State, unless the options require existing tables. If memory has no room for
-    /// a copy of the volumes, reads are answered from the file.
+    /// new tables and the first State, unless the options require existing tables. Reads are answered from a
+    /// copy of the volumes in memory. If the options forbid a copy, or memory has no room for it, they are
+    /// answered from the file.
     ///
     /// These promises hold while the disks return the bytes that were written to them (`AreClean`). Over any
     /// disk, one reply is written for each call that was read, in the order of the calls, until a write fails
@@ -79,15 +80,16 @@ impl<O: Observer> Run<'_, O> {
     ///
     /// `NotOpened` means that the files were not opened, and `Refused` that their database was refused. No
     /// call was read and no reply written, and the next run starts from the State from which this run would
-    /// have started. `Left` means that the store refused a call, and `NotClosed` that copying the WAL into
-    /// the database file failed. After `Left` or `NotClosed`, calls were served as after `Ok`. The files have
-    /// the State after the calls, or the State that a refused call would have made.
+    /// have started. `Left` means that the store refused a call. `NotClosed` means that copying the WAL into
+    /// the database file failed, or that the files cannot be used after an earlier fault. After `Left` or
+    /// `NotClosed`, calls were served as after `Ok`. The files have the State after the calls, or the State
+    /// that a refused call would have made.
     ///
     /// # Not promised
     ///
     /// The disk may return other bytes than were written. Memory may be refused, so a run need not return
-    /// `Ok`; tests exclude a body that always returns `NotOpened`. The volumes may not be copied into memory
-    /// even if memory allows it.
+    /// `Ok`; tests exclude a body that always returns `NotOpened`. A run may also leave out the copy of the
+    /// volumes although memory has room for it.
     ///
     /// The contract does not cover a stop while this program repairs a file in which an earlier release was
     /// stopped. It also does not exclude that such a file is refused because of its WAL. Tests cover such a

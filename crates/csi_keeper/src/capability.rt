@@ -111,8 +111,9 @@ impl Ord for CapKey {
     }
 }
 
-// Returns the mode that is wider than `mode`, if there is one. CSI 1.5 split `SINGLE_NODE_WRITER` (1) into
-// `SINGLE_NODE_SINGLE_WRITER` (6) and `SINGLE_NODE_MULTI_WRITER` (7), so mode 1 is wider than these two.
+// Returns the mode that is wider than `mode`, or `None` if no mode is wider. CSI 1.5 split
+// `SINGLE_NODE_WRITER` (1) into `SINGLE_NODE_SINGLE_WRITER` (6) and `SINGLE_NODE_MULTI_WRITER` (7), so mode 1
+// is wider than these two.
 fn wider_mode(mode: u8) -> Option<u8>
     ensures { result ≡ wider_mode mode }
 {
@@ -168,8 +169,8 @@ pub fn has_key(keys: &[CapKey], key: &CapKey) -> bool
 }
 
 /// Returns true if a volume can be created with this key (CSI specification, 'CreateVolume'). Block access
-/// allows each known mode. Mount access allows the known modes in which no node writes while other nodes have
-/// the volume.
+/// allows each known mode. Mount access allows each known mode except `MULTI_NODE_SINGLE_WRITER` and
+/// `MULTI_NODE_MULTI_WRITER`, in which a node may write while other nodes have the volume.
 pub fn supported(key: &CapKey) -> bool
     ensures { result ≡ is_supported_key key.now }
 {

@@ -5,8 +5,8 @@ ghost use Rattle.csi_keeper.specs.Coexistence.{coexist, is_shared};
 
 use crate::volume::Attachment;
 
-// Returns true if attachments with this access mode can coexist. `readonly` is true if one of the two
-// attachments is read-only.
+// Returns true if attachments with this access mode can coexist. `readonly` is true if at least one of the
+// two attachments is read-only.
 fn is_shared(mode: u8, readonly: bool) -> bool
     ensures { result ≡ is_shared mode readonly }
 {

@@ -7,7 +7,7 @@ use crate::volume::{Attachment, Volume};
 use csi_types::{Items, copy_map};
 use std::alloc::{AllocError, Global};
 
-/// Copies a capability key, with memory of `alloc`.
+/// Returns a copy of a capability key. The copy shares no memory with `key`.
 ///
 /// # Errors
 ///
@@ -25,7 +25,7 @@ pub fn copy_key(alloc: Global, key: &CapKey) -> Result<CapKey, AllocError>
     })
 }
 
-/// Copies a list of capability keys in the same order, with memory of `alloc`.
+/// Returns a copy of a list of capability keys, in the same order. The copy shares no memory with `keys`.
 ///
 /// # Errors
 ///
@@ -60,7 +60,7 @@ pub fn copy_volume(alloc: Global, volume: &Volume) -> Result<Volume, AllocError>
     })
 }
 
-/// Copies an attachment with all its fields, with memory of `alloc`.
+/// Returns a copy of an attachment. The copy shares no memory with `attachment`.
 ///
 /// # Errors
 ///

@@ -21,7 +21,7 @@ use crate::change::StoreFault;
 pub struct Health {
     /// The number of calls that returned `Refused` or `Down`, at most 2^64 - 1.
     pub refusals: u64,
-    /// True if the keeper is down, so that each further call returns `Down`.
+    /// True if the keeper is down, so that each further read and change returns `Down`.
     pub is_down: bool,
 }
 

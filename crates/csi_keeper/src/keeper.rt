@@ -104,9 +104,9 @@ pub trait Keeper {
     fn sizes_in(&mut self, alloc: Global, pool: &str) -> Result<Items<u64>, StoreFault>
         ensures { Reads (model self.old) (model self.new) result (λ s xs. xs ≡ sizes s pool.now) };
 
-    /// Returns the number of a pool's volumes and the sum of their bytes, each at most 2^64 - 1. These are
-    /// the length and the sum of the list that `sizes_in` returns. A keeper stores both, so creating a volume
-    /// costs no more in a pool with many volumes.
+    /// Returns the number of a pool's volumes and the sum of their bytes. These are the length and the sum of
+    /// the list that `sizes_in` returns, but a value above 2^64 - 1 is returned as 2^64 - 1. A keeper stores
+    /// both, so creating a volume costs no more in a pool with many volumes.
     fn used_in(&mut self, pool: &Text) -> Result<Usage, StoreFault>
         ensures { Reads (model self.old) (model self.new) result (λ s u. u ≡ used s pool.now) };
 

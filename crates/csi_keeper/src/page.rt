@@ -38,7 +38,7 @@ pub trait PageFold {
 ///
 /// # Errors
 ///
-/// If `add` fails. The fold may then have taken some of the entries.
+/// If [`PageFold::add`] fails, since memory is refused. The fold may then have taken some of the entries.
 pub fn fold_listed<F: PageFold>(listed: &[Listed], fold: &mut F) -> Result<(), AllocError>
     ensures folded { OnOk result (F.folds fold.old listed.now fold.new) }
     ensures kept { F.keeps fold.old fold.new }

@@ -49,7 +49,8 @@ impl Totals {
         }
     }
 
-    /// Returns the number of a pool's volumes and the sum of their bytes, each at most 2^64 - 1.
+    /// Returns the number of a pool's volumes and the sum of their bytes. A sum above 2^64 - 1 is returned as
+    /// 2^64 - 1.
     pub fn usage(&self, pool: &Text) -> Usage
         ensures { result ≡ reported (total_of self.now pool.now) }
     {

@@ -14,7 +14,7 @@ use csi_memory::MemKeeper;
 use csi_types::{Items, MAX_NUMBER, MAX_POOL_BYTES, Text};
 use std::alloc::Global;
 
-// The number of volumes that one read returns.
+// The greatest number of volumes that one read returns.
 const PAGE: u32 = 1000;
 
 // Adds the attachments of a volume to the copy, which has no attachments of the volume yet.
@@ -107,8 +107,8 @@ fn attachments_of<K: Keeper>(
 }
 
 // Adds the volumes of a page with their attachments to the copy. `after` is the number of the volume before
-// the page. The volumes are moved. Returns the number of the last volume on the page, or `after` if the page
-// is empty.
+// the page, or 0 for the first page. Returns the number of the last volume on the page, or `after` if the
+// page is empty.
 fn restore_page<K: Keeper>(
     alloc: Global,
     keeper: &mut K,
@@ -168,9 +168,10 @@ fn restore_all<K: Keeper>(
 ///
 /// # Errors
 ///
-/// Returns the fault of a read, or `NoMemory` if an allocation is refused. If a number or a size is out of
-/// bounds, returns `Refused`. Only a store that returns other values than were written has such a number or
-/// size. So if the State meets the invariant, each `Refused` comes from a read of the keeper.
+/// Returns the fault of a read, or `NoMemory` if an allocation is refused. Returns `Refused` for a next
+/// number above 2^62, a volume with a number of 2^62 or more, or a size above 2^62 bytes. Only a store that
+/// returns other values than were written has such a number or size. So if the State meets the invariant,
+/// each `Refused` comes from a read of the keeper.
 pub(crate) fn copy_of<K: Keeper>(alloc: Global, keeper: &mut K) -> Result<MemKeeper, StoreFault>
     ensures keeper_unchanged { IsQuiet (K.model keeper.old) (K.model keeper.new) }
     ensures copy { IfOk result (λ memory. IsCopy (K.model keeper.old) (K.model keeper.new) memory) }

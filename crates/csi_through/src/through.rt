@@ -20,7 +20,8 @@ use csi_memory::MemKeeper;
 use csi_types::{Items, Text};
 use std::alloc::Global;
 
-// Starts a call. The call is refused if the keeper in memory lacks a change that the change store has.
+// Starts a read. Fails with `Down` if the keeper is down, and with `Refused` if the keeper in memory lacks a
+// change that the change store has. The failure is counted.
 fn start_call(health: &mut Health, is_current: bool) -> Result<(), StoreFault>
     ensures down { (result ≡ Err Down) ↔ IsTrue health.old.is_down }
     ensures fault { result ≢ Err NoMemory }
@@ -35,7 +36,8 @@ fn start_call(health: &mut Health, is_current: bool) -> Result<(), StoreFault>
     Ok(())
 }
 
-// Starts a change. If the change is refused here, the keeper goes down, and each further call returns `Down`.
+// Starts a change. Fails as `start_call` does. After a failure here, the keeper is down, and each further
+// read and change returns `Down`.
 fn start_change(health: &mut Health, is_current: bool) -> Result<(), StoreFault>
     ensures down { (result ≡ Err Down) ↔ IsTrue health.old.is_down }
     ensures fault { result ≢ Err NoMemory }
@@ -55,7 +57,7 @@ fn start_change(health: &mut Health, is_current: bool) -> Result<(), StoreFault>
 ///
 /// Its State is the State of the change store, and a stop leaves what a stop of the change store leaves. If
 /// the change store fails to make a change, also because an allocation is refused, the keeper is down: each
-/// further call returns `Down`.
+/// further read and change returns `Down`.
 ///
 /// If the change store made a change but the keeper in memory did not, the call still returns `Ok`. The
 /// keeper in memory is then out of date: each read before the next change returns `Refused`. The next change
@@ -97,8 +99,8 @@ impl<M: Keeper, D: ChangeStore> Through<M, D> {
         }
     }
 
-    /// Returns true if the keeper is down. If it is down, each further call returns `Down`. Only a failed
-    /// change brings the keeper down.
+    /// Returns true if the keeper is down. If it is down, each further read and change returns `Down`. Only a
+    /// failed change brings the keeper down.
     pub fn is_down(&self) -> bool
         ensures { result ≡ self.now.health.is_down }
     {
@@ -117,7 +119,8 @@ impl<M: Keeper, D: ChangeStore> Through<M, D> {
 /// The error of [`Through::over`]: the reason why the copy failed, and the keeper.
 #[derive(Drop)]
 pub struct NotCopied<K> {
-    /// The reason why the copy failed: memory was refused, or a read of the keeper failed.
+    /// The reason why the copy failed: memory was refused, a read of the keeper failed, or a number or a size
+    /// that was read is out of bounds (`Refused`).
     pub fault: StoreFault,
     /// The keeper, whose State is unchanged.
     pub keeper: K,
@@ -133,8 +136,11 @@ impl<K: Keeper> Through<MemKeeper, KeeperChanges<K>> {
     ///
     /// # Errors
     ///
-    /// If a read of `keeper` fails or an allocation is refused. The error contains `keeper`, whose State is
-    /// unchanged.
+    /// - a read of `keeper` fails, or an allocation is refused
+    /// - `keeper` returns a next number above 2^62, a volume with a number of 2^62 or more, or a size above
+    ///   2^62 bytes. Only a store that returns other values than were written does this.
+    ///
+    /// The error contains `keeper`, whose State is unchanged.
     pub fn over(
         alloc: Global,
         mut keeper: K,
@@ -158,7 +164,9 @@ impl<D: ChangeStore + Drop> Through<MemKeeper, D> {
     ///
     /// # Errors
     ///
-    /// Returns the fault of a read of `keeper`, or `NoMemory` if an allocation is refused.
+    /// Returns the fault of a read of `keeper`, or `NoMemory` if an allocation is refused. Returns `Refused`
+    /// if `keeper` returns a next number above 2^62, a volume with a number of 2^62 or more, or a size above
+    /// 2^62 bytes. Only a store that returns other values than were written does this.
     pub fn copied<K: Keeper>(
         alloc: Global,
         keeper: &mut K,

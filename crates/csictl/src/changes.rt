@@ -105,7 +105,8 @@ fn line_of_body(
 
 /// Makes the call of a change. Shows a line that says what was done, or the refusal. With `--json`, shows the
 /// reply as a line of JSON. Tries the call again while it has no reply and tries are left. For a removal,
-/// first checks that there is something to remove.
+/// first checks that there is something to remove. If the server refuses the call of this check, shows this
+/// refusal and makes no removal.
 ///
 /// # Errors
 ///

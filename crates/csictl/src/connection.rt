@@ -10,7 +10,8 @@ use std::net::Shutdown;
 use std::thread;
 use std::time::{Duration, Instant};
 
-// The greatest number of tries of one read or write, and the greatest number of tries to connect.
+// The greatest number of tries of one read or write, and the greatest number of tries to connect. It bounds
+// the loops, and no try of a call reaches it.
 const MAX_WAITS: u64 = 1 << 32;
 
 // The number of milliseconds between two tries to connect, if the server has no room for another connection.
@@ -146,7 +147,8 @@ impl<'a> Connection<'a> {
     ///
     /// # Errors
     ///
-    /// If connecting fails or times out, or memory is refused.
+    /// If no program listens at `path`, connecting takes longer than `timeout`, the system refuses the
+    /// connection or to poll it, the clock cannot be read, or memory is refused.
     pub(crate) fn new(
         rt: &'a HostRuntime,
         path: &str,

@@ -49,8 +49,8 @@ impl Ended {
 /// The reason why the program fails. Its `Display` is the line on standard error.
 #[derive(Debug, Drop, Error)]
 pub(crate) enum Failure {
-    /// The command line is not valid, help or the version could not be written, or memory for the arguments
-    /// was refused.
+    /// The command line is not valid, help or the version could not be written, or memory was refused while
+    /// the arguments were parsed. The exit status is 2, 5 or 6.
     #[error("{0}")]
     Arguments(#[from] ArgumentsFault),
     /// No method has this name.
@@ -62,7 +62,7 @@ pub(crate) enum Failure {
         method: Method,
         option: &'static str,
     },
-    /// This option cannot be combined with `--message`.
+    /// The option with this name, which is written without dashes, cannot be combined with `--message`.
     #[error("--{0} cannot be used with --message")]
     WithMessage(&'static str),
     /// `--all` was given with a method other than ListVolumes.
@@ -71,7 +71,7 @@ pub(crate) enum Failure {
     /// The value of `--message` is not an even number of hexadecimal digits.
     #[error("--message: not an even number of hexadecimal digits")]
     NotHex,
-    /// The value of this option is not a number in decimal digits.
+    /// The value of this option is not a number in decimal digits alone, for example because it has a sign.
     #[error("--{0}: not decimal digits alone")]
     NotDecimal(&'static str),
     /// No socket is given, and no socket exists at the paths that the units use.
@@ -117,20 +117,20 @@ pub(crate) enum Failure {
     /// The configuration has no node with this id.
     #[error("{0}: no node of the configuration has this id")]
     NoNode(String),
-    /// No volume has this id.
+    /// No volume has this id, which has the form of an id, such as `vol-1`.
     #[error("{0}: no volume has this id")]
     NoVolume(String),
     /// No volume has this id, and the text does not have the form of an id. The text may be the name of a
     /// volume.
     #[error("{0}: no volume has this id; ids look like vol-1, and csid --list-tables or csid-etcd --list shows the name of each")]
     NotAnId(String),
-    /// The volume is not published to this node.
+    /// The volume of an `unpublish` exists, and is not published to this node.
     #[error("{volume}: not published to {node}")]
     NotAtNode {
         volume: String,
         node: String,
     },
-    /// The volume is not published to any node.
+    /// The volume of an `unpublish` without a node exists, and is not published to any node.
     #[error("{0}: not published to any node")]
     NotPublished(String),
     /// An operation on a file, standard output or the socket failed, or a call got no reply. The value has

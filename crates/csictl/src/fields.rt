@@ -222,7 +222,8 @@ impl<'m, 'a> Fields<'m, 'a> {
         })
     }
 
-    /// Returns the text of an option, or an empty text if the option is not given.
+    /// Returns the text of an option, or an empty text if the option is not given. Fails if memory is
+    /// refused.
     pub(crate) fn text(&self, name: &str) -> Result<Text, FieldFault> {
         Ok(Text::from_str(self.alloc, self.arguments.get_str(name).unwrap_or(""))?)
     }
@@ -257,8 +258,10 @@ impl<'m, 'a> Fields<'m, 'a> {
         Ok(Access::Mount(Boxed::new(self.alloc, mount)?))
     }
 
-    /// Returns the capability that the options describe, with the mode in `--mode`. Returns `None` without
-    /// `--mode`.
+    /// Returns the capability that the options describe: its mode is in `--mode`, and it is a mount of the
+    /// file system in `--fs`, or a block device without `--fs`. A command for people without `--mode` has the
+    /// mode SINGLE_NODE_WRITER. In any other command, returns `None` without `--mode`. Fails if memory is
+    /// refused.
     pub(crate) fn capability(&self) -> Result<Option<Capability>, FieldFault> {
         let Some(mode) = self.mode else {
             return Ok(None);
@@ -269,8 +272,8 @@ impl<'m, 'a> Fields<'m, 'a> {
         }))
     }
 
-    /// Returns a list of the capability that the options describe, with the mode in `--mode`. The list is
-    /// empty without `--mode`.
+    /// Returns a list of the capability that [`Fields::capability`] returns, or an empty list if it returns
+    /// `None`. Fails if memory is refused.
     pub(crate) fn capabilities(&self) -> Result<Items<Capability>, FieldFault> {
         list_of(self.alloc, self.capability()?)
     }
@@ -293,6 +296,11 @@ impl<'m, 'a> Fields<'m, 'a> {
 
     /// Returns the pairs of an option, or `None` if the option is not given. Commas separate the pairs, and
     /// the first `=` of a pair ends its key. If two pairs have the same key, the last one counts.
+    ///
+    /// # Errors
+    ///
+    /// [`FieldFault::NotPair`] if a pair has no `=`, also for an empty text, or [`FieldFault::NoMemory`] if
+    /// memory is refused.
     pub(crate) fn pairs(&self, name: &str) -> Result<Option<Map>, FieldFault> {
         let Some(text) = self.arguments.get_str(name) else {
             return Ok(None);
@@ -302,7 +310,7 @@ impl<'m, 'a> Fields<'m, 'a> {
         Ok(Some(map))
     }
 
-    /// Returns the pairs of an option, or an empty map if the option is not given.
+    /// Returns the pairs of an option as [`Fields::pairs`] does, or an empty map if the option is not given.
     pub(crate) fn map(&self, name: &str) -> Result<Map, FieldFault> {
         let mut map = Map::new(self.alloc);
         if let Some(text) = self.arguments.get_str(name) {

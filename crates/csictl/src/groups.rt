@@ -226,7 +226,8 @@ impl Taker for Groups {
 
 impl Groups {
     /// Makes a group without volumes for each node of the configuration, or for each pool if `by` is
-    /// [`GroupedBy::Pool`]. Without a configuration, there are no groups yet.
+    /// [`GroupedBy::Pool`]. Without a configuration, there are no groups yet. If `are_ids_kept` is true, the
+    /// groups keep the ids of their volumes, and a listing of nodes shows them.
     ///
     /// # Errors
     ///
@@ -264,7 +265,7 @@ impl Groups {
         Ok(())
     }
 
-    // Counts a volume in its group. Returns false if the group does not exist.
+    // Counts a volume in its group, and returns true. If the group does not exist, only returns false.
     fn is_counted(
         &mut self,
         alloc: Global,

@@ -1,5 +1,6 @@
-//! Writes replies as JSON, in the mapping of proto3. Each field of a message is written, even if it has its
-//! default value.
+//! Writes replies as JSON, in the mapping of proto3. Each field that `csi_codec` decodes is written, even if
+//! it has its default value. The exceptions are the mount group of a capability, and a oneof without a
+//! member.
 
 use command_line::MODE_NAMES;
 use csi_types::{
@@ -199,7 +200,8 @@ fn ready(alloc: Global, ready: Option<bool>) -> Json {
     json!(in alloc; {"ready": ready})
 }
 
-/// Returns a response as a JSON object with the names of the CSI specification.
+/// Returns a response as a JSON object. The keys are the names of the fields in the CSI specification, in the
+/// mapping of proto3, such as `volumeId`.
 pub(crate) fn response(alloc: Global, response: &Response) -> Json {
     match response {
         Response::PluginInfo { name, version } => {

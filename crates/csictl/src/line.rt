@@ -45,7 +45,7 @@ struct Wire<'a> {
 }
 
 impl<'a> Wire<'a> {
-    // Returns the connection that was kept, or makes a new one.
+    // Begins the time of a try. Returns the connection that was kept, or makes a new one.
     fn connection(&mut self) -> io::Result<Connection<'a>> {
         match self.kept.take() {
             Some(mut connection) => {
@@ -147,11 +147,13 @@ impl<'a> SocketLine<'a> {
         self.unanswered = None;
     }
 
-    /// Sends a call and returns its reply. Sends it again while it has no reply and tries are left.
+    /// Sends a call and returns its reply. Sends it again while it has no complete reply and tries are left.
+    /// Before each further try, reports why the last try was not answered, and waits 50 ms to 2 s.
     ///
     /// # Errors
     ///
-    /// If no try has a reply, the reply is malformed, or memory is refused.
+    /// If no try has a complete reply, the reply is malformed, the server speaks HTTP/2, or memory is
+    /// refused.
     pub(crate) fn call(&mut self, frame: &[u8]) -> Result<ReceivedReply, Failure> {
         let tries = self.patience.tries;
         self.begin();

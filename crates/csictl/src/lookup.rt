@@ -22,8 +22,8 @@ fn token_before(alloc: Global, id: &str) -> Result<Text, AllocError> {
     Ok(Text::from_string(format!(in alloc; "{before}")?))
 }
 
-/// Returns the failure that no volume has this id. If the text does not have the form of an id, it may be a
-/// name, so the line also shows the form of ids.
+/// Returns the failure that no volume has this id, or [`Failure::NoMemory`] if memory is refused. If the text
+/// does not have the form of an id, it may be a name, so the line also shows the form of ids.
 pub(crate) fn no_volume(alloc: Global, id: &str) -> Failure {
     let Ok(text) = String::from_str(alloc, id) else {
         return Failure::NoMemory;

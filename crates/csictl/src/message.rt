@@ -187,7 +187,8 @@ fn framed(alloc: Global, method: Method, message: &[u8]) -> Result<Vec<u8>, Fail
 ///
 /// # Errors
 ///
-/// If the arguments do not describe a message, or memory is refused.
+/// If the arguments do not describe a message, the message has more than 1,048,576 bytes, or memory is
+/// refused.
 pub(crate) fn frame(
     alloc: Global,
     method: Method,
@@ -201,7 +202,8 @@ pub(crate) fn frame(
 ///
 /// # Errors
 ///
-/// If the arguments do not describe a message, or memory is refused.
+/// If the arguments do not describe a message, the message has more than 1,048,576 bytes, or memory is
+/// refused.
 pub(crate) fn frame_of_person(
     alloc: Global,
     method: Method,

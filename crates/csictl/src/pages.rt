@@ -137,7 +137,8 @@ fn walk_once<T: Taker>(
 ///
 /// # Errors
 ///
-/// If a call has no reply, a reply is malformed or not a page, the pages have no end, or memory is refused.
+/// If a call has no reply, a reply is malformed or not a page, a token is too long for a call, the pages have
+/// no end, or memory is refused.
 pub(crate) fn walk<T: Taker>(
     alloc: Global,
     line: &mut SocketLine<'_>,

@@ -29,7 +29,7 @@ impl From<DecodeFault> for Failure {
 ///
 /// # Errors
 ///
-/// If standard output cannot be written.
+/// If standard output cannot be written. The failure is [`Failure::ReaderGone`] if its reader has closed it.
 pub(crate) fn write(rt: &HostRuntime, shown: &[u8]) -> Result<(), Failure> {
     match rt.stdout().write_all(shown) {
         Ok(()) => Ok(()),

@@ -20,7 +20,7 @@ fn obey(rt: &HostRuntime, arguments: &ArgMatches<'_>) -> Result<Ended, Failure> 
     }
 }
 
-// Runs a command for people, or `show`.
+// Runs the command for people that has this name, or `show` for any other name.
 fn obey_person(rt: &HostRuntime, name: &str, arguments: &ArgMatches<'_>) -> Result<Ended, Failure> {
     match name {
         "status" => status::run(rt, arguments),

@@ -30,7 +30,8 @@ fn show(rt: &HostRuntime, method: Option<Method>) -> Result<Ended, Failure> {
 ///
 /// # Errors
 ///
-/// If no method has the name, a reply is malformed, reading or writing fails, or memory is refused.
+/// If no method has the name, a reply is malformed, a body is not a response of the method, reading or
+/// writing fails, or memory is refused.
 pub(crate) fn run(rt: &HostRuntime, arguments: &ArgMatches<'_>) -> Result<Ended, Failure> {
     match arguments.get_str("method") {
         Some(name) => show(rt, Some(message::method(rt.alloc(), name)?)),
@@ -39,6 +40,10 @@ pub(crate) fn run(rt: &HostRuntime, arguments: &ArgMatches<'_>) -> Result<Ended,
 }
 
 /// Shows the replies on standard input, without a method.
+///
+/// # Errors
+///
+/// If a reply is malformed, reading or writing fails, or memory is refused.
 pub(crate) fn run_plain(rt: &HostRuntime) -> Result<Ended, Failure> {
     show(rt, None)
 }

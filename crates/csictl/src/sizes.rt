@@ -112,7 +112,8 @@ fn units_of(number: &str, unit: u64) -> Option<i64> {
     i64::try_from(tenths / 10).ok()
 }
 
-// Returns the bytes of a size: a number with a unit of `UNITS`, with the unit `B`, or without a unit.
+// Returns the bytes of a size: a number with a unit of `UNITS`, with the unit `B`, or without a unit. Returns
+// `None` for any other text, and if the size is not a whole number of bytes below 2^63.
 fn bytes_of_plain(text: &str) -> Option<i64> {
     for unit in &UNITS {
         if let Some(number) = text.strip_suffix(unit.name) {
@@ -132,8 +133,9 @@ pub(crate) fn bytes_of(text: &str) -> Option<i64> {
     }
 }
 
-/// Returns a size as a text in the greatest binary unit that shows it exactly with at most one decimal, such
-/// as `1.5 GiB`. A negative size is in bytes.
+/// Returns a size as a text in a binary unit, such as `1.5 GiB`. The unit is the greatest one that is at most
+/// the size and shows it exactly with at most one decimal. If there is none, and for a negative size, the
+/// text is in bytes.
 pub(crate) fn size_text(alloc: Global, bytes: i64) -> Result<String, AllocError> {
     match u64::try_from(bytes) {
         Ok(count) => command_line::size_text(alloc, count),

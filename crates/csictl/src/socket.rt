@@ -40,6 +40,9 @@ fn existing(rt: &HostRuntime) -> Option<&'static str> {
 /// - the control socket of the front, at the path in the units of deploy/, if it exists
 /// - the socket of `csid`, at the path in the units of deploy/, if it exists
 ///
+/// Of the last two, a path is also returned if the system does not report that it is missing, for example if
+/// the user may not read its folder. Connecting then reports the reason.
+///
 /// # Errors
 ///
 /// If there is no such socket, the variable is not UTF-8, or memory is refused.

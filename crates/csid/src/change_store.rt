@@ -97,7 +97,8 @@ impl Drop for OpenChangeStore {
 }
 
 impl OpenChangeStore {
-    /// Returns true if calls may be answered from the copy in memory. These conditions must hold:
+    /// Returns true if calls may be answered from the copy in memory. These conditions must hold, and the
+    /// change store is asked only if the first three do:
     ///
     /// - the copy has each change
     /// - no change failed
@@ -111,7 +112,8 @@ impl OpenChangeStore {
     }
 }
 
-// Returns true if a change store replied OK.
+// Returns true if a change store replied with the status OK, and false for any other reply or without a
+// reply.
 fn is_agreed(received: Received) -> bool
     ensures { IsTrue result → IsAgreed received }
 {
@@ -130,9 +132,11 @@ fn is_leading<P: Peer>(alloc: Global, change_store: &mut P) -> bool
 }
 
 /// Asks the change store at the other end of a connection if it leads, and returns true if it answers yes.
-/// After this answer, no other change store has made a change since the rows were read over this connection,
-/// since a change store that stops leading closes its connections. A copy that has each change of this
-/// program is then current.
+/// Returns false if it answers no, if no reply comes within 30 seconds, or if memory is refused.
+///
+/// After the answer yes, no other change store has made a change since the rows were read over this
+/// connection, since a change store that stops leading closes its connections. A copy that has each change of
+/// this program is then current.
 pub(crate) fn leads(alloc: Global, stream: &TimedStream) -> bool {
     stream.deadline().begin_exchange();
     is_leading(alloc, &mut Channel::new(stream, stream))
@@ -343,8 +347,8 @@ fn read_over_memory<P: Peer + Drop>(
     read_change_store(console, config, path, change_store, conn)
 }
 
-// Connects to a change store. Returns the connection, and a peer over the connection that records its
-// exchanges.
+// Connects to a change store, and begins the time of the opening. Returns the connection, and a peer over the
+// connection that records its exchanges.
 fn reach(
     rt: &HostRuntime,
     path: &str,
@@ -365,8 +369,8 @@ fn reach(
 ///
 /// # Errors
 ///
-/// If the change store cannot be reached, does not reply or refuses a request, its rows are refused, or
-/// memory is refused.
+/// If the change store cannot be reached, does not reply in time or refuses a request, its rows are refused,
+/// the clock cannot be read, or memory is refused.
 pub(crate) fn open_change_store(
     console: &Console<'_>,
     config: &Config,

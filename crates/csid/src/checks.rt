@@ -9,7 +9,8 @@ use crate::tables::{check_existing, check_path};
 use csid_console::Console;
 use csid_settings::{Chosen, Failure, configuration};
 
-// Checks that a file has tables, as far as its path and its first bytes show.
+// Checks that a file has tables, as far as its path and its first bytes show. A file that cannot be read
+// passes, since the reading of its tables reports the reason.
 fn check_readable(rt: &HostRuntime, path: &str) -> Result<(), Failure>
     ensures { IfErr result (λ failure. IsOrNoMemory 4 failure) }
 {
@@ -22,7 +23,8 @@ fn check_readable(rt: &HostRuntime, path: &str) -> Result<(), Failure>
 ///
 /// # Errors
 ///
-/// If the configuration or the tables are refused, the counts cannot be written, or memory is refused.
+/// If the configuration or the tables cannot be read or are refused, the counts cannot be written, or memory
+/// is refused.
 pub(crate) fn check_tables(
     console: &Console<'_>,
     path: &str,
@@ -33,7 +35,8 @@ pub(crate) fn check_tables(
     csid_listings::check_tables(console, path, &config)
 }
 
-/// Writes a list of the volumes in a file of tables on standard output, in JSON if `is_json` is true.
+/// Lists the volumes in a file of tables that pass the filter `chosen`. Writes the list to standard output,
+/// in JSON if `is_json` is true, otherwise in columns.
 ///
 /// # Errors
 ///
@@ -54,8 +57,8 @@ pub(crate) fn list_tables(
 ///
 /// # Errors
 ///
-/// If the configuration or the tables are refused, a file exists at `to`, the copy or the counts cannot be
-/// written, or memory is refused.
+/// If the configuration or the tables cannot be read or are refused, a file exists at `to` or at the path
+/// `to` with `.new` at its end, the copy or the counts cannot be written, or memory is refused.
 pub(crate) fn copy_tables(
     console: &Console<'_>,
     path: &str,

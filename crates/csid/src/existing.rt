@@ -17,13 +17,15 @@ const KIND_AT: usize = 100;
 
 const CELLS_AT: usize = 103;
 
+// The kind of a page that is a leaf of a table.
 const LEAF: u8 = 13;
 
 // The greatest number of bytes of memory that an opening takes for one byte of the file: six for the row, and
 // one for the page that the opening keeps.
 const OPENING_FACTOR: u64 = 7;
 
-// The least number of pages that an opening may keep in memory.
+// The number of pages that each opening may keep in memory, even if a 32nd of the process's limit of memory
+// is less.
 const LEAST_CACHE_PAGES: u64 = 2000;
 
 // The greatest number of bytes of pages that an opening keeps in memory: 64 MiB. The opening keeps all pages
@@ -109,7 +111,7 @@ struct Pages {
 }
 
 // Reads the header of a file. The size of a page is at offset 16, where 1 means 65,536, and the number of
-// free pages is at offset 36.
+// free pages is at offset 36. Fails if the file cannot be read or has fewer than 105 bytes.
 fn pages_of(rt: &HostRuntime, path: &str) -> io::Result<Pages> {
     let mut head = [0; HEADER_BYTES];
     File::open(rt, path)?.read_exact(&mut head)?;
@@ -170,7 +172,8 @@ fn cache_pages(rt: &HostRuntime, count: u64, page_bytes: u64) -> u64
 }
 
 /// Returns the limits of memory for opening the file of tables. They depend on the size of the file and of
-/// its WAL. For a file that does not exist, `bytes` is 0 and `cache_pages` is 2,000.
+/// its WAL. For a file that does not exist or whose size is not known, `bytes` is 0 and `cache_pages` is
+/// 2,000.
 pub(crate) fn opening_limits(rt: &HostRuntime, path: &str) -> OpeningLimits
     ensures least { 2000 ≤ result.cache_pages }
 {
@@ -185,7 +188,8 @@ pub(crate) fn opening_limits(rt: &HostRuntime, path: &str) -> OpeningLimits
 }
 
 /// Returns the fault if the file is empty or missing and its WAL has changes, otherwise `None`. An opening of
-/// such a file would start a new WAL, and the changes would be lost.
+/// such a file would start a new WAL, and the changes would be lost. Files that cannot be read give `None`,
+/// since the opening reports the reason.
 pub(crate) fn fault_of_wal(rt: &HostRuntime, path: &str) -> Option<FileFault> {
     match (is_empty(rt, path), has_frames(rt, path)) {
         (Ok(true), Ok(true)) => Some(FileFault::Emptied),

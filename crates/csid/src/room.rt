@@ -10,7 +10,7 @@ const GROUPS: &str = "/sys/fs/cgroup";
 
 const MEMORY_GROUPS: &str = "/sys/fs/cgroup/memory";
 
-// The size in bytes of a page of memory in `/proc/self/statm`.
+// The size in bytes of the pages of memory that `/proc/self/statm` counts.
 const PAGE_BYTES: u64 = 4096;
 
 // The part of a control group's limit that is left for calls, in bytes. An eighth of the limit is left for
@@ -88,7 +88,8 @@ fn used(rt: &HostRuntime) -> Option<Usage> {
     })
 }
 
-// Returns the limit in a file of a control group, in bytes, or `None` if the file is missing or has no limit.
+// Returns the limit in a file of a control group, in bytes, or `None` if the file cannot be read or has no
+// limit.
 fn limit_in(rt: &HostRuntime, root: &str, group: &str, file: &str) -> Option<u64> {
     let path = format!(in rt.alloc(); "{root}{group}/{file}").ok()?;
     let text = fs::read_to_string(rt, path.as_str()).ok()?;
@@ -152,7 +153,7 @@ const ADDRESS_SPACE: &str = "Max address space";
 const DATA: &str = "Max data size";
 
 // Returns the limit in a row of `/proc/self/limits`, in bytes. Returns `None` if the process has no such
-// limit.
+// limit, or the file cannot be read.
 fn process_limit(rt: &HostRuntime, row: &str) -> Option<u64> {
     let lines = fs::read_to_string(rt, "/proc/self/limits").ok()?;
     for line in lines.as_str().lines() {
@@ -217,7 +218,9 @@ impl MemoryGauge {
     }
 
     /// Returns true if there is memory for calls, and for the next opening of tables, which takes `opening`
-    /// bytes. Also returns true if no limit is known, or the memory in use cannot be measured.
+    /// bytes. For the calls, the memory in use must be able to grow again as much as it grew since the last
+    /// measurement. `new` makes the first measurement, and each use of this function a further one. Also
+    /// returns true if no limit is known, or the memory in use cannot be measured.
     pub(crate) fn has_room(&self, opening: usize) -> bool {
         if self.address_space.is_none() && self.resident.is_none() {
             return true;

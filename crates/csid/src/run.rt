@@ -105,7 +105,8 @@ fn refused_options(alloc: Global, why: &str) -> Failure
     Failure::Arguments(ArgumentsFault::refused(format!(in alloc; "{why}")))
 }
 
-// Returns the task that the arguments describe.
+// Returns the task that the arguments describe. Fails if a number is not written in decimal digits alone, if
+// options exclude each other, if an option is missing, or if memory for the line about this is refused.
 fn task<'a>(alloc: Global, arguments: &ArgMatches<'a>) -> Result<Task<'a>, Failure> {
     if let Some((option, number)) = odd_number(arguments) {
         return Err(refused_number(alloc, option, number));

@@ -95,8 +95,9 @@ pub(crate) struct TablesRun<'a, O> {
 
 impl<O: Observer> TablesRun<'_, O> {
     /// Serves the calls in `sent`, and then the calls from the reader. A missing file is made, unless the
-    /// options require an existing file. `start` stands for the content of the file and its WAL in the
-    /// contract, which holds for any content.
+    /// options require an existing file. If the store refused calls, the result is still `Ok`, and the report
+    /// has the number of these calls. `start` stands for the content of the file and its WAL in the contract,
+    /// which holds for any content.
     ///
     /// # Errors
     ///
@@ -143,7 +144,7 @@ impl<O: Observer> TablesRun<'_, O> {
     }
 }
 
-/// An observer that reports nothing. The replies are the same as with any other observer.
+/// An observer that reports nothing. It asks the gauge if there is room, as the observer of a socket does.
 #[derive(Clone, Copy)]
 pub(crate) struct SilentObserver<'a> {
     /// The gauge of this process's memory, which answers `has_room`.

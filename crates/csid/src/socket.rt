@@ -95,8 +95,9 @@ fn report_outcome(console: &Console<'_>, ending: Ending, now: Instant, end: RunE
     }
 }
 
-// Reports how a connection ended. `ending` is the reason if the server ended the turn of the connection.
-// `is_cut` is true if a reply was held back. Nothing is reported if the calls ended without a fault.
+// Reports how a connection ended. `ending` is the reason if the server ended the turn of the connection. The
+// reason is reported if the turn ended in a read. `is_cut` is true if a reply was held back. Nothing is
+// reported if the calls ended without a fault, or if the clock cannot be read.
 fn report_end(console: &Console<'_>, ending: Option<Ending>, is_cut: bool, end: RunEnd) {
     let Ok(now) = Instant::now(console.rt) else {
         return;
@@ -296,7 +297,8 @@ fn existing_change_store(
     open_change_store(console, config, path)
 }
 
-// Answers the calls of a connection over an open change store, and returns the change store.
+// Answers the calls of a connection over an open change store, and returns the change store. Reports if a
+// change was refused, or if the copy in memory lacks a change.
 fn serve_open(
     service: &Service<'_>,
     waiting: &mut Waiting,
@@ -454,7 +456,8 @@ fn listen_over<'a>(
     Ok(listener)
 }
 
-// Makes the queue of connections at a socket.
+// Makes the queue of connections at a socket. Fails if the system refuses to poll the socket, or memory is
+// refused.
 fn waiting_at(
     rt: &HostRuntime,
     serving: &Serving<'_>,
@@ -483,8 +486,9 @@ fn next_peer(service: &Service<'_>, waiting: &mut Waiting) -> Result<Option<Pend
 ///
 /// # Errors
 ///
-/// If the file of tables or the group is refused, the socket cannot be bound or accepts no connection, or
-/// memory is refused.
+/// If the file of tables or the group is refused, the socket cannot be bound or accepts no connection, the
+/// system refuses to wait for connections, the clock cannot be read, or memory is refused. A failure of one
+/// connection is only reported, and so is a failure to open the tables or the change store.
 pub(crate) fn serve_socket<'a>(
     console: &'a Console<'a>,
     config: &'a Config,

@@ -1,4 +1,5 @@
-//! The survey at the start of a server: it opens and checks the tables in a file, and reports their counts.
+//! The survey at the start of a server: it opens and checks the tables in a file, makes missing tables if the
+//! options allow it, and reports the counts of the tables.
 
 ghost use Rattle.std.specs.Prelude.{[], Some};
 ghost use Rattle.csid.specs.Serving.{IsSurveyed};

@@ -56,7 +56,8 @@ fn check_kind(rt: &HostRuntime, path: &str) -> Result<(), Failure>
 ///
 /// # Errors
 ///
-/// If the file is missing or has no tables, or memory is refused.
+/// If the file is missing or has no tables, if the file is empty or missing while its WAL has changes, or if
+/// memory is refused.
 pub(crate) fn check_existing(rt: &HostRuntime, path: &str) -> Result<(), Failure>
     ensures { IfErr result (λ failure. IsOrNoMemory 4 failure) }
 {
@@ -72,7 +73,8 @@ fn check_wal(rt: &HostRuntime, path: &str) -> Result<(), Failure>
 }
 
 /// Checks the path and the kind of a file. Also checks that the file has tables or may get new tables, as far
-/// as its header and its WAL show. Changes nothing.
+/// as its header and its WAL show. Changes nothing. A file that cannot be read passes, since the opening
+/// reports the reason.
 ///
 /// # Errors
 ///
@@ -90,7 +92,8 @@ pub(crate) fn check_file(rt: &HostRuntime, file: &TablesFile<'_>) -> Result<(), 
 }
 
 /// Checks the path, the kind, the header and the WAL of a file before it is opened. If the file is missing
-/// and may be made, makes it with mode 0600.
+/// and may be made, makes it with mode 0600. A file that cannot be read or made passes, since the opening
+/// reports the reason.
 ///
 /// # Errors
 ///

@@ -1,4 +1,5 @@
-//! A connection to a change store that bounds the time of an exchange, however slowly the bytes come.
+//! A connection to a change store that bounds the time of each exchange and of an opening, however slowly the
+//! bytes come.
 
 use std::cell::Cell;
 use std::io::{self, ErrorKind, Read, Write};
@@ -6,11 +7,12 @@ use std::os::unix::net::UnixStream;
 use std::rc::Rc;
 use std::time::{Duration, Instant};
 
-// The number of seconds for a frame and its complete reply. After this time it is unknown if a change was
-// made.
+// The greatest number of seconds for sending a frame and receiving its complete reply. After this time the
+// exchange fails, and it is unknown if the change store made the change of the frame.
 const EXCHANGE_SECONDS: u64 = 30;
 
-// The number of seconds in which an opening must have read all rows.
+// The greatest number of seconds for reading all rows in an opening. Each page of rows is an exchange of its
+// own, so many slow exchanges could otherwise delay the server for very long.
 const ROWS_SECONDS: u64 = 300;
 
 /// The deadlines of a connection to a change store: for the current exchange, and for the opening.
@@ -54,8 +56,9 @@ impl Deadline {
         })
     }
 
-    /// Begins an exchange, whose deadline is 30 seconds from now. If the clock cannot be read, the reads and
-    /// writes of the exchange fail.
+    /// Begins an exchange, whose deadline is 30 seconds from now. During an opening, the deadline of the
+    /// opening counts if it is earlier. If the clock cannot be read, the reads and writes of the exchange
+    /// fail.
     pub(crate) fn begin_exchange(&self) {
         self.exchange.set(after(&self.rt, EXCHANGE_SECONDS).ok());
     }
@@ -101,11 +104,12 @@ impl Drop for TimedStream {
 }
 
 impl TimedStream {
-    /// Connects to a socket. After the deadline has passed, reads and writes of the connection fail.
+    /// Connects to a socket. After the deadline has passed, reads and writes of the connection fail. The
+    /// deadline does not bound how long connecting takes.
     ///
     /// # Errors
     ///
-    /// If connecting fails.
+    /// If no program listens at `path`, the system refuses the connection, or memory is refused.
     pub(crate) fn connect(
         rt: &HostRuntime,
         path: &str,

@@ -11,20 +11,21 @@ use crate::limits::{CALL_SECONDS, SHORTEST_MILLIS, WANTED_SECONDS, left_of};
 use csid_console::Ending;
 use std::time::{Duration, Instant};
 
-/// The start of a period whose time counts only from the first wait in it.
+/// The start of a period. The time of the period counts from the first check of this time, so the time that
+/// `csid` takes before that does not count.
 #[derive(Clone, Copy)]
 pub(crate) enum Since {
     /// The period has not begun.
     Never,
-    /// The period has begun, and the connection has not waited yet.
+    /// The period has begun, and its time was not checked yet.
     Now,
-    /// The first wait in the period began at this time.
+    /// The time of the period was first checked at this time, from which it counts.
     Then(Instant),
 }
 
 impl Since {
-    // Returns the start of the period, or `None` if the period has not begun. The first wait sets the start
-    // to `now`.
+    // Returns the time from which the period counts, or `None` if the period has not begun. The first use in
+    // a period sets this time to `now`.
     fn start(&mut self, now: Instant) -> Option<Instant>
         ensures { SharesTime now self.old self.new result }
     {
@@ -39,9 +40,9 @@ impl Since {
     }
 }
 
-/// The time of the current call or reply. The time of a call begins with the first byte of the call. The time
-/// of a reply begins with the first write of the reply that waits, and replaces the time of the call. After
-/// the reply, neither time runs until the next call.
+/// The time of the current call or reply. A call begins with its first byte. A reply begins with its first
+/// write that waits, and the time of the reply then replaces the time of the call. Each of these times counts
+/// from its first check ([`Since`]). After the reply, neither time runs until the next call.
 #[derive(Clone, Copy)]
 pub(crate) struct CallClock {
     // The period since the peer last sent or took bytes.
@@ -50,7 +51,8 @@ pub(crate) struct CallClock {
     begun: Since,
     // The time that is allowed for the whole call or reply.
     allowed: Duration,
-    // The time when this call or reply first delayed another connection that was ready.
+    // The time when this call or reply first delayed another connection that was ready, or `None` before
+    // that.
     delayed: Option<Instant>,
     // True while a reply is written, false while a call is read.
     is_reply: bool,
@@ -80,7 +82,8 @@ impl CallClock {
         matches!(self.begun, Since::Never)
     }
 
-    /// Notes that bytes of a call, or the end of the stream, have come.
+    /// Notes that bytes of a call, or the end of the stream, have come. The time without activity begins
+    /// again. Between two calls, this also begins the time of the next call.
     pub(crate) fn note_bytes(&mut self)
         ensures { NotesBytes self.old self.new }
     {
@@ -98,7 +101,7 @@ impl CallClock {
     }
 
     /// Notes that a write of a reply waits. Returns true for the first such write, which begins the time of
-    /// the reply.
+    /// the reply, and false for each later write of the same reply.
     pub(crate) fn begin_reply(&mut self) -> bool
         ensures { BeginsReply self.old self.new result }
     {
@@ -151,7 +154,7 @@ impl CallClock {
 
     /// Returns the time for which the peer may still send and take nothing. `None` means any time. `idle` is
     /// the whole time allowed, and `blocked` is the part of it that has passed in a read or a write that
-    /// blocked.
+    /// blocked. The first use of this function after the peer sent or took bytes starts the time at `now`.
     ///
     /// # Errors
     ///
@@ -175,12 +178,14 @@ impl CallClock {
     }
 
     /// Returns the time for which the peer may still delay a call or a reply, although another connection is
-    /// ready. `since` is the time when the first other connection became ready.
+    /// ready. `since` is the time when the first other connection became ready. The result is the longer of
+    /// two times: the rest of one second since `since`, and the rest of 100 ms since the first use of this
+    /// function in this call or reply.
     ///
     /// # Errors
     ///
     /// [`Ending::Idle`] if no call has begun, since the peer may not delay other connections between two
-    /// calls. [`Ending::Preempted`] if the time is over.
+    /// calls. [`Ending::Preempted`] if both times are over.
     pub(crate) fn left_for_others(
         &mut self,
         since: Instant,

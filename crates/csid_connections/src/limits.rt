@@ -15,12 +15,15 @@ pub(crate) const CALL_SECONDS: u64 = 10;
 /// also ends after this time, so that the queue is polled.
 pub(crate) const WANTED_SECONDS: u64 = 1;
 
-/// The number of milliseconds for which the peer that is served may delay each call or reply in any case,
-/// even if other connections have waited longer than [`WANTED_SECONDS`].
+/// The number of milliseconds that the peer that is served has for each call or reply in any case, counted
+/// from the time when the call or reply first delays another connection. The peer has this time even if the
+/// other connection has been ready for longer than [`WANTED_SECONDS`]. So a peer that sends and takes its
+/// bytes at once is served even if many connections are ready.
 pub(crate) const SHORTEST_MILLIS: u64 = 100;
 
 /// The number of seconds of a turn after which the connection that is served is closed between two calls, if
-/// another connection is ready. If no other connection is ready, the turn goes on.
+/// another connection is ready. If no other connection is ready, the turn goes on. Without this limit, a peer
+/// that sends call after call would delay the other connections without an end.
 pub(crate) const TURN_SECONDS: u64 = 60;
 
 /// Returns the part of the time `longest` that is left at `now`, counted from `begun`. Returns `None` if the

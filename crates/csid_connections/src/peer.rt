@@ -8,9 +8,9 @@ ghost use Rattle.csid_connections.specs.Replying.{after_reply, begun, is_cut, is
 use std::io::{self, ErrorKind, Write};
 use std::os::unix::net::UnixStream;
 
-/// Returns true if the peer has closed the connection. To find out, writes no bytes, which fails only if the
-/// peer has closed. A peer that has closed only its sending half still waits for replies, and the result is
-/// false.
+/// Returns true if the peer has closed the connection. The test is a write of 0 bytes, which fails only if
+/// the peer has closed. A peer that has closed only its sending half still waits for replies, and the result
+/// is false.
 pub fn has_gone(stream: &UnixStream) -> bool {
     let mut writer = stream;
     writer.write(&[]).is_err()

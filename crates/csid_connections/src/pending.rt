@@ -41,7 +41,7 @@ pub enum PeerInput {
     Lost,
 }
 
-/// The bytes that a connection in the queue has sent.
+/// The bytes that a connection has sent before it is served, their kind, and the times at which they came.
 #[derive(Drop)]
 pub struct FirstBytes {
     /// The bytes, in the order in which they came.
@@ -56,11 +56,12 @@ pub struct FirstBytes {
     begun: Option<Instant>,
 }
 
-/// A connection in the queue, with the bytes that it has sent.
+/// A connection in the queue: its stream, and the bytes that were read from it before it is served.
 pub struct Pending {
     /// The stream. Its reads and writes do not block while the connection is in the queue.
     pub stream: UnixStream,
-    /// The bytes that the connection has sent.
+    /// The bytes that were read from the stream so far. When the connection is served, these bytes come
+    /// first.
     pub first: FirstBytes,
 }
 
@@ -138,8 +139,9 @@ impl FirstBytes {
         Ok(longest)
     }
 
-    /// Returns the time that the peer has taken for the bytes of its first call, from the first byte to the
-    /// last that has come. The time is zero if no byte has come.
+    /// Returns the time that the peer has taken for the bytes of its first call. It is the time from the
+    /// first byte to the last byte or the end of the stream, as far as they have come. The time is zero if no
+    /// byte has come.
     pub fn spent(&self) -> Duration
         ensures { as_nanos result ≡ spent_nanos self.now }
     {
@@ -198,8 +200,8 @@ impl Pending {
         }
     }
 
-    /// Reads once from the connection. If the connection is ready, reads nothing, since the later bytes are
-    /// read when the connection is served.
+    /// Reads once from the connection, at most 4,096 bytes, and keeps the bytes. If the connection is ready,
+    /// reads nothing, since the later bytes are read when the connection is served.
     pub fn receive(&mut self, now: Instant) -> PeerInput
         ensures known { is_known self.old.first.start ≡ true
             → (result ≡ PeerInput.Nothing) × (self.new.first ≡ self.old.first) }

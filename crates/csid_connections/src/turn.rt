@@ -2,7 +2,8 @@
 //! queue is polled.
 //!
 //! If another connection is ready, the connection that is served is closed as soon as all calls that have
-//! come from it are answered. Until then, its peer may delay a call or a reply only for a short time.
+//! come from it are answered, or between two calls after 60 seconds of its turn. Until then, its peer may
+//! delay a call or a reply only for a short time.
 
 ghost use Rattle.std.specs.Prelude.{◌≡◌, Bool, true, false, Some, ⊤, OnOk};
 ghost use Rattle.std.specs.Io.{ReadsAtMost, WritesAtMost};
@@ -196,7 +197,8 @@ impl<S: Stream> Steps<'_, S> {
         }
     }
 
-    // Reads the next bytes, and waits for them if necessary.
+    // Reads the next bytes, and waits for them if necessary. Returns 0 at the end of the stream. Fails if the
+    // server ends the turn, or the stream or the clock cannot be read.
     fn read<R: Read>(&mut self, reader: &mut R, buf: &mut [u8]) -> io::Result<usize>
         ensures bound { ReadsAtMost result buf.new }
         ensures bytes { ReadConsumes (R.remaining reader.old) (R.remaining reader.new) result buf.new }
@@ -218,7 +220,8 @@ impl<S: Stream> Steps<'_, S> {
         Err(io::Error::from(ErrorKind::TimedOut))
     }
 
-    // Writes as many bytes as the stream takes, and waits until it takes bytes if necessary.
+    // Writes as many bytes as the stream takes, and waits until it takes bytes if necessary. Fails if the
+    // server ends the turn, the stream cannot be written, or the clock cannot be read.
     fn write<W: Write>(&mut self, writer: &mut W, buf: &[u8]) -> io::Result<usize>
         ensures bound { WritesAtMost result buf.now }
         ensures bytes { WriteAppends (W.contents writer.old) (W.contents writer.new) result buf.now }
@@ -249,13 +252,15 @@ impl<S: Stream> Steps<'_, S> {
 pub struct Turn<'a> {
     stream: &'a UnixStream,
     steps: RefCell<Steps<'a, UnixStream>>,
-    /// The reason why the turn ended before the peer closed the connection, otherwise `None`.
+    /// The reason why the server ended the turn. `None` while the turn goes on, and if the peer or an error
+    /// of the stream ended it.
     pub ending: Cell<Option<Ending>>,
 }
 
 impl<'a> Turn<'a> {
-    /// Begins the turn of a connection that has sent bytes. While no other connection is ready, a read or a
-    /// write of the stream may block for up to a second, and then the queue is polled.
+    /// Begins the turn of a connection that was in the queue, and the time of the turn. While no other
+    /// connection is ready, a read or a write of the stream may block for up to a second, and then the queue
+    /// is polled.
     ///
     /// # Errors
     ///
@@ -326,8 +331,8 @@ impl<R: Read> Read for TurnReader<'_, '_, R> {
     }
 }
 
-/// Writes the replies of a connection to its stream. A write may wait until the stream takes more bytes, and
-/// then continues with the bytes that are left. A flush ends a reply.
+/// Writes the replies of a connection to its stream. A write may wait until the stream takes bytes, and
+/// returns the number of bytes that were taken. A flush ends a reply.
 #[derive(Drop)]
 pub struct TurnWriter<'t, 'a, W> {
     turn: &'t Turn<'a>,

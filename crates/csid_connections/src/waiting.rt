@@ -21,16 +21,17 @@ use std::os::unix::net::{UnixListener, UnixStream};
 use std::time::{Duration, Instant};
 
 // The greatest number of connections in the queue. If one more connection comes, the oldest connection that
-// is not ready is closed. If all are ready, no further connection is accepted.
+// was read and is not ready is closed. If there is no such connection, no further connection is accepted.
 const MOST: usize = 256;
 
-// The greatest number of connections that one call of `look` accepts.
+// The greatest number of connections that one call of `look` accepts, so that the call soon reads from the
+// connections of the queue.
 const AT_ONCE: usize = 64;
 
 // The token of every source. A look reads from all connections, so it does not matter which source is ready.
 const ANY: Token = Token(0);
 
-/// The queue of connections, and the socket that accepts them.
+/// The queue of connections that wait to be served, at most 256 of them, and the socket at which they come.
 pub struct Waiting {
     listener: UnixListener,
     poll: Poll,
@@ -40,7 +41,7 @@ pub struct Waiting {
     left: u32,
     // The time for which a peer may send or take nothing, or `None` for any time.
     idle: Option<Duration>,
-    // True if a connection or bytes came at the last look.
+    // True if a connection or bytes came at the last look, or connections were closed to make room.
     is_stirring: bool,
 }
 
@@ -100,7 +101,7 @@ impl Waiting {
     ///
     /// # Errors
     ///
-    /// If the system refuses to poll the socket, or memory is refused.
+    /// If the system refuses to make the socket non-blocking or to poll it, or memory is refused.
     pub fn new(
         rt: &HostRuntime,
         listener: UnixListener,
@@ -151,8 +152,8 @@ impl Waiting {
         earliest
     }
 
-    // Returns the time for which a connection in the queue may send nothing. After the last connection was
-    // accepted, this time is at most ten seconds, so that the program ends.
+    // Returns the time for which a connection in the queue may send nothing, or `None` for any time. After
+    // the last connection was accepted, this time is at most ten seconds, so that the program ends.
     fn silence(&self) -> Option<Duration>
         ensures { IsSilence self.now.idle self.now.left result }
     {
@@ -297,8 +298,8 @@ impl Waiting {
         }
     }
 
-    // Reads from the first connection of the queue. Then makes it the last connection, or closes it and
-    // returns the reason.
+    // Reads from the first connection of the queue. Then makes it the last connection and returns `None`, or
+    // closes it and returns the reason. Returns `None` if the queue is empty.
     fn look_at_first(&mut self, now: Instant) -> Option<Ending>
         ensures turns { TurnsOver self.old.idle self.old.left now
             self.old.pending.items self.new.pending.items }
@@ -331,7 +332,7 @@ impl Waiting {
         }
     }
 
-    // Returns the index of the oldest connection that is ready.
+    // Returns the index of the oldest connection that is ready, or `None` if no connection is ready.
     fn first_ready(&self) -> Option<usize>
         ensures place { result ≡ position is_ready self.now.pending.items }
         ensures ready { IfSome result (λ place. (d : Pending)
@@ -340,7 +341,8 @@ impl Waiting {
         self.pending.iter().position(|it| it.first.is_known())
     }
 
-    // Removes the oldest connection that is ready from the queue and returns it.
+    // Removes the oldest connection that is ready from the queue and returns it. If no connection is ready,
+    // returns `None`.
     fn pop_ready(&mut self) -> Option<Pending>
         ensures taken { TakesOut (position is_ready self.old.pending.items)
             self.old.pending.items self.new.pending.items result }
@@ -368,7 +370,9 @@ impl Waiting {
         longest
     }
 
-    /// Accepts connections, and reads from each connection of the queue.
+    /// Accepts connections, and reads from each connection of the queue. Closes and reports the connections
+    /// that failed, were silent for too long, or did not complete their first call in time. Also makes the
+    /// console write its counts of ended connections if they are due.
     ///
     /// # Errors
     ///
@@ -388,7 +392,8 @@ impl Waiting {
 
     /// Waits for the first of these events: a connection or bytes come, a connection of the queue must be
     /// closed, the console must write its counts of ended connections, or the time `longest` is over. `None`
-    /// means no time limit. Returns at once if the last look found a connection or bytes.
+    /// means no time limit. Returns at once if a connection or bytes came at the last look, or if the last
+    /// look closed connections to make room.
     ///
     /// # Errors
     ///
@@ -410,7 +415,7 @@ impl Waiting {
     }
 
     /// Waits until a connection of the queue is ready ([`Waiting::has_ready`]), and returns the oldest ready
-    /// connection. Returns `None` after the last connection.
+    /// connection. Returns `None` if no more connections are accepted and the queue is empty.
     ///
     /// # Errors
     ///

@@ -39,9 +39,10 @@ pub enum Ending {
     Crowded,
     /// The connection sent a malformed frame.
     Malformed,
-    /// The connection delayed another connection for too long.
+    /// The connection delayed another connection for too long, during a call or a reply, or after the time of
+    /// its turn.
     Preempted,
-    /// The connection could not be read or written.
+    /// The connection could not be read or written, memory was refused, or the limit of reads was reached.
     Failed,
 }
 
@@ -182,8 +183,9 @@ impl<'a> Console<'a> {
         has_caught_up
     }
 
-    /// Writes a line, which begins with the program's name. A line that cannot be written at once is dropped.
-    /// The next line that can be written comes after a line with the number of dropped lines.
+    /// Writes a line, which begins with the program's name. A line that cannot be written at once is dropped,
+    /// though its beginning may have been written. The next line that can be written comes after a line with
+    /// the number of dropped lines.
     pub fn say<T: Display>(&self, what: &T) {
         if !self.catch_up() || !self.put(what) {
             self.dropped.set(self.dropped.get().saturating_add(1));
@@ -224,9 +226,10 @@ impl<'a> Console<'a> {
         }
     }
 
-    /// Begins the next second if the current second is over at `now`. Writes how many connections ended in
-    /// the second before without a line of their own. If there are any, the connections of the next second
-    /// get no lines either, and are only counted.
+    /// If no second has begun, or the current second is over at `now`, begins a second at `now`, and writes
+    /// how many connections ended in the second before without a line of their own. If there are any, the
+    /// connections of the second that begins get no lines either, and are only counted. Otherwise does
+    /// nothing.
     pub fn finish_second(&self, now: Instant) {
         if self.left(now).is_none() {
             self.shown.set(0);
@@ -247,7 +250,9 @@ impl<'a> Console<'a> {
     }
 
     /// Writes `what` as a line about a connection that ended. After ten such lines in one second, only counts
-    /// the connection under its `ending`. The counts are written when the second is over.
+    /// the connection under its `ending`. The same holds in a second that follows a second with counts
+    /// ([`Console::finish_second`]). [`Console::finish`] writes the counts, and so does the first call of
+    /// this function or of `finish_second` after the second is over.
     pub fn report_end<T: Display>(&self, ending: Ending, now: Instant, what: &T) {
         self.finish_second(now);
         let shown = self.shown.get();

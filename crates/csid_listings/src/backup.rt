@@ -110,7 +110,7 @@ fn write_failure(rt: &HostRuntime, path: &str, error: &io::Error) -> Failure
 }
 
 // Writes a copy as `TO.new` and then gives it the name `TO`. After a failure, removes `TO.new` unless it
-// existed before.
+// existed before. If only the sync of the folder fails, the copy stays at `TO`.
 fn write_copy(rt: &HostRuntime, to: &str, bytes: &[u8]) -> Result<(), Failure>
     ensures { IfErr result (λ failure. IsOrNoMemory 4 failure) }
 {
@@ -130,12 +130,14 @@ fn write_copy(rt: &HostRuntime, to: &str, bytes: &[u8]) -> Result<(), Failure>
 /// Copies the tables in the file at `path` into a new file at `to`, and writes their counts on standard
 /// output. The copy has the tables as they were committed at one moment, and needs no WAL. It is checked
 /// under the configuration before the new file gets the name `to`. The file at `path` is only read, and a
-/// server may have it open.
+/// server may have it open. On a file system without hard links, a file that another process makes at `to`
+/// during the copy is replaced.
 ///
 /// # Errors
 ///
-/// If a file exists at `to` or at the path `to` with `.new` at its end, the tables cannot be read or are
-/// refused, the copy or the counts cannot be written, or memory is refused.
+/// If a file exists at `to` or at the path `to` with `.new` at its end, the system does not report if a file
+/// exists at `to`, the tables cannot be read or are refused, the copy or the counts cannot be written, or
+/// memory is refused. If only the counts cannot be written, the copy is complete.
 pub fn copy_tables(
     console: &Console<'_>,
     path: &str,

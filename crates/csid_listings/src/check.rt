@@ -44,8 +44,8 @@ pub(crate) fn report<T: Display>(rt: &HostRuntime, what: &T) -> Result<(), Failu
     }
 }
 
-/// Reads the configuration in the file at `path`, and writes the numbers of its pools and nodes as a line on
-/// standard output. Unknown keys and all faults of the configuration are reported.
+/// Reads the configuration in the file at `path`, and writes the plugin's name and the numbers of pools and
+/// nodes as a line on standard output. Unknown keys and all faults of the configuration are reported.
 ///
 /// # Errors
 ///
@@ -62,7 +62,7 @@ pub fn check_config(console: &Console<'_>, path: &str) -> Result<(), Failure> {
 ///
 /// # Errors
 ///
-/// If the tables are refused, or memory is refused.
+/// If the tables or their counts cannot be read, the tables are refused, or memory is refused.
 pub(crate) fn adopted<S: Alter + Drop>(
     console: &Console<'_>,
     path: &str,
@@ -98,7 +98,8 @@ pub fn check_tables(console: &Console<'_>, path: &str, config: &Config) -> Resul
 ///
 /// # Errors
 ///
-/// If the tables are refused, the line cannot be written, or memory is refused.
+/// If the tables or their counts cannot be read, the tables are refused, the line cannot be written, or
+/// memory is refused.
 pub(crate) fn check_over<S: Alter + Drop>(
     console: &Console<'_>,
     path: &str,

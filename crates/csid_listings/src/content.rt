@@ -63,7 +63,7 @@ fn number<S: Alter>(conn: &mut Connection<S>, sql: &str) -> Result<i64, Error>
 ///
 /// # Errors
 ///
-/// If the database fails, or memory is refused.
+/// If there are no such tables, the database fails, or memory is refused.
 pub fn read_content<S: Alter>(conn: &mut Connection<S>) -> Result<Content, Error>
     requires { conn.old.in_transaction ≡ false }
     ensures { conn.new.in_transaction ≡ false }

@@ -94,17 +94,20 @@ trait DatabaseReads {
     // Holds if the header of the WAL was read and had these bytes.
     ghost wal_header: { Self → Self → List ℕ → Type 0 } = { λ _ _ _. ⊤ };
 
-    /// Returns the bytes of the database file, or no bytes if there is no such file.
+    /// Returns the bytes of the database file, or no bytes if there is no such file. Fails if the file cannot
+    /// be read or memory is refused.
     fn read_database(&mut self) -> Result<Vec<u8>, Failure>
         ensures read { IfOk result (λ bytes. database self.old self.new bytes.items) }
         ensures failure { IfErr result (λ failure. IsOrNoMemory 4 failure) };
 
-    /// Returns the bytes of the WAL, or no bytes if there is no such file.
+    /// Returns the bytes of the WAL, or no bytes if there is no such file. Fails if the WAL cannot be read or
+    /// memory is refused.
     fn read_wal(&mut self) -> Result<Vec<u8>, Failure>
         ensures read { IfOk result (λ bytes. wal self.old self.new bytes.items) }
         ensures failure { IfErr result (λ failure. IsOrNoMemory 4 failure) };
 
-    /// Returns the first 32 bytes of the WAL, or all its bytes if it is shorter.
+    /// Returns the first 32 bytes of the WAL, or all its bytes if it is shorter. A missing WAL has no bytes.
+    /// Fails if the WAL cannot be read or memory is refused.
     fn read_wal_header(&mut self) -> Result<Vec<u8>, Failure>
         ensures read { IfOk result (λ bytes. wal_header self.old self.new bytes.items) }
         ensures failure { IfErr result (λ failure. IsOrNoMemory 4 failure) };

@@ -20,7 +20,7 @@ use csid_settings::{Chosen, Failure};
 use sqlite::{Alter, Connection};
 use std::alloc::Global;
 
-// The number of volumes in one read.
+// The greatest number of volumes in one read, so that a read does not hold all volumes at once.
 const PAGE: u32 = 1000;
 
 // A number above the number of each volume, since integers of SQLite are below 2^63.

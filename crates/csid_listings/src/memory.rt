@@ -55,8 +55,8 @@ pub fn is_no_memory(error: &Error) -> bool {
     matches!(error, Error::SqliteFailure(ErrorCode::SystemIoFailure))
 }
 
-/// Returns the failure for a database in memory that cannot be opened or read. The line about it has `path`
-/// as the name of the database.
+/// Returns the failure for a database in memory that cannot be opened or read. It is [`Failure::NoMemory`] if
+/// memory was refused. Otherwise its line has `path` as the name of the database.
 pub fn memory_failure(alloc: Global, path: &str, error: &Error) -> Failure
     ensures { IsOrNoMemory 4 result }
 {
@@ -66,7 +66,8 @@ pub fn memory_failure(alloc: Global, path: &str, error: &Error) -> Failure
     database_failure(alloc, path, error)
 }
 
-/// Returns the failure for tables of a database in memory that were not adopted.
+/// Returns the failure for tables of a database in memory that were not adopted. It is [`Failure::NoMemory`]
+/// if memory was refused.
 pub(crate) fn memory_adoption_failure(alloc: Global, path: &str, fault: &AdoptFault) -> Failure
     ensures { IsOrNoMemory 4 result }
 {

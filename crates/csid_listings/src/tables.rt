@@ -45,12 +45,12 @@ pub fn store_failure(alloc: Global, path: &str, fault: StoreFault) -> Failure
     }
 }
 
-/// Makes a keeper over the tables on a connection. If there are no tables, makes new tables. The line about a
-/// failure has `path` as the name of the database.
+/// Makes a keeper over the tables on a connection. If there are no tables, makes new tables. Tables of an
+/// older format are upgraded. The line about a failure has `path` as the name of the database.
 ///
 /// # Errors
 ///
-/// If the tables are refused, or memory is refused.
+/// If the tables are refused, the database fails, or memory is refused.
 pub fn keeper_over<S: Alter + Drop>(
     rt: &HostRuntime,
     path: &str,

@@ -18,7 +18,8 @@ pub struct Chosen<'a> {
     pub node: Option<&'a str>,
 }
 
-/// The task that the command line gives to `csid`.
+/// The task that the command line gives to `csid`. Without a command and an option, it is [`Task::Pipe`] over
+/// volumes in memory.
 #[derive(Clone, Copy)]
 pub enum Task<'a> {
     /// Answer calls from standard input on standard output.
@@ -85,7 +86,7 @@ pub enum Volumes<'a> {
     ChangeStore(&'a str),
 }
 
-/// The options of `csid serve`.
+/// The options of `csid serve`: its socket, the store of its volumes, its configuration and its limits.
 #[derive(Clone, Copy)]
 pub struct Serving<'a> {
     /// The path at which the socket is made.
@@ -285,8 +286,9 @@ const NUMBERS: [(&str, &str); 2] = [
     ("idle", "--idle <SECONDS>"),
 ];
 
-/// Returns the first option whose value is not only decimal digits: the option as an error line shows it, and
-/// its value. Returns `None` if there is no such option. The check is needed since `clap` accepts a sign.
+/// Returns the first of `--connections` and `--idle` whose value is not only decimal digits: the option as an
+/// error line shows it, and its value. Returns `None` if there is no such value. The check is needed since
+/// `clap` accepts a sign.
 pub fn odd_number<'a>(matches: &ArgMatches<'a>) -> Option<(&'static str, &'a str)> {
     let (_, arguments) = matches.subcommand()?;
     for (name, shown) in NUMBERS {
@@ -428,7 +430,8 @@ fn pipe_task<'a>(arguments: &ArgMatches<'a>) -> Piped<'a> {
     }
 }
 
-/// Returns the task of arguments that [`read_arguments`] has accepted.
+/// Returns the task of arguments that [`read_arguments`] has accepted, and in which [`odd_number`],
+/// [`odd_check`] and [`odd_store`] find no fault.
 pub fn task_of<'a>(matches: &ArgMatches<'a>) -> Task<'a> {
     match matches.subcommand() {
         Some(("serve", arguments)) => Task::Serve(serve_task(arguments)),

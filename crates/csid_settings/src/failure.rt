@@ -40,32 +40,34 @@ impl Resource {
 /// `Display` is the line on standard error.
 #[derive(Debug, Error)]
 pub enum Failure {
-    /// A frame of a call is malformed.
+    /// A frame of a call is malformed. The value has the rule that the frame breaks, and the byte at which it
+    /// does. The exit status is 1.
     #[error("{0}")]
     Malformed(FrameFault),
-    /// The command line is not valid, help or the version could not be written, or memory for the arguments
-    /// was refused.
+    /// The command line is not valid, help or the version could not be written, or memory was refused while
+    /// the arguments were parsed. The exit status is 2, 5 or 6.
     #[error("{0}")]
     Arguments(#[from] ArgumentsFault),
-    /// A resource cannot be used. The value has the name of the resource and the reason.
+    /// A resource cannot be used. The value has the name of the resource and the reason. The exit status is
+    /// 3, 4 or 7, by the resource.
     #[error("{1}")]
     Unusable(Resource, Cause),
-    /// The path of the tables is empty.
+    /// The path of the tables is empty. The exit status is 4.
     #[error("the path of the tables is empty")]
     NoTablesPath,
-    /// The input with this name cannot be read.
+    /// The input with this name cannot be read. The exit status is 5.
     #[error("a read of {0} failed")]
     ReadFailed(&'static str),
-    /// The output with this name cannot be written.
+    /// The output with this name cannot be written. The exit status is 5.
     #[error("a write to {0} failed")]
     WriteFailed(&'static str),
-    /// A run of calls ended because it reached the limit of 2^32 reads.
+    /// A run of calls ended because it reached the limit of 2^32 reads. The exit status is 5.
     #[error("the reads of one run are spent")]
     TurnsSpent,
-    /// Memory was refused.
+    /// Memory was refused. The exit status is 6.
     #[error("out of memory")]
     NoMemory,
-    /// The path of the socket is empty.
+    /// The path of the socket is empty. The exit status is 7.
     #[error("the socket's path is empty")]
     NoSocketPath,
 }

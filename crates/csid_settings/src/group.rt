@@ -27,7 +27,8 @@ fn number_in(line: &str, name: &str) -> Option<u32> {
     parts.next()?.parse().ok()
 }
 
-// Returns the number of the group with this name in the lines of the file, or `None` if no line has the name.
+// Returns the number of the group with this name in the lines of the file, or `None` if no line has the name
+// and a number.
 fn number_among(lines: &str, name: &str) -> Option<u32> {
     for line in lines.lines() {
         if let Some(number) = number_in(line, name) {
@@ -51,7 +52,8 @@ fn number_of(text: &str) -> Option<u32> {
 ///
 /// # Errors
 ///
-/// If no group has the name and the text is not a number below 2^32 - 1, or memory is refused.
+/// If the name is neither the name of a group nor a decimal number, if the number is not below 2^32 - 1, or
+/// if memory is refused.
 pub fn group_number(rt: &HostRuntime, name: &str) -> Result<u32, Failure>
     ensures { IfErr result (λ failure. IsOrNoMemory 7 failure) }
 {

@@ -39,9 +39,10 @@ pub fn listed()
         AreFields (e ∷ es) bytes ↔ ((rest : List ℕ) × (field_at bytes ≡ Ok (e, rest)) × AreFields es rest) }
 {}
 
-/// The shortest encoding of a field is read back as the field, with any bytes after it. If the fields of a
-/// list are written one after the other, the bytes are a message with this list of fields. No other encoding
-/// of a field is shorter. A field can be encoded if and only if its number and its value are in range.
+/// If the number and the value of a field are in range (`FitsField`), its shortest encoding is read back as
+/// the field, with any bytes after it. If such fields are written one after the other, the bytes are a
+/// message with this list of fields. No other encoding of a field is shorter. A field whose number or value
+/// is out of range has no encoding.
 #[inline(always)]
 pub fn written()
     ensures again { (e : WireField) (more : List ℕ) → FitsField e

@@ -165,8 +165,8 @@ impl<'a> Fields<'a> {
         }
     }
 
-    /// Returns the offset in bytes after the last field that was read. After a fault this is the offset of
-    /// the faulty field.
+    /// Returns the offset in bytes after the last field that was read, or 0 if no field was read. After a
+    /// fault this is the offset of the faulty field.
     pub fn at(&self) -> usize
         ensures { result ≡ self.now.at }
     {

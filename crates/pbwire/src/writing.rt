@@ -47,8 +47,8 @@ fn short_head(number: u32, len: usize) -> Option<[u8; 2]>
     Some([number as u8 * 8 + 2, len as u8])
 }
 
-/// Encodes a field that has a number (wire type 0), for callers that must know the length of the field before
-/// they write it.
+/// Encodes the field `number` with the value `value` (wire type 0), for callers that must know the length of
+/// the field before they write it. `number` must be from 1 to 536,870,911.
 #[inline(always)]
 pub fn varint_field(number: u32, value: u64) -> ArrayVec<u8, 20>
     requires { (1 ≤ number) × (number < 2 ^ 29) }
@@ -57,7 +57,8 @@ pub fn varint_field(number: u32, value: u64) -> ArrayVec<u8, 20>
     head_of(number, 0, value)
 }
 
-/// Appends a field that has a number (wire type 0). If memory is refused, the vector is unchanged.
+/// Appends the field `number` with the value `value` (wire type 0). `number` must be from 1 to 536,870,911.
+/// If memory is refused, the vector is unchanged.
 pub fn put_varint(out: &mut Vec<u8>, number: u32, value: u64) -> Result<(), AllocError>
     requires { (1 ≤ number) × (number < 2 ^ 29) }
     ensures ok { OnOk result (out.new.items ≡ out.old.items ++ spelling (record {
@@ -95,8 +96,8 @@ fn put_long_bytes(out: &mut Vec<u8>, number: u32, bytes: &[u8]) -> Result<(), Al
     append_both(out, head.as_slice(), bytes)
 }
 
-/// Appends a field that has bytes (wire type 2), such as a text or an embedded message. The vector grows at
-/// most once. If memory is refused, the vector is unchanged.
+/// Appends a field that has bytes (wire type 2), such as a text or an embedded message. `number` must be from
+/// 1 to 536,870,911. The vector grows at most once. If memory is refused, the vector is unchanged.
 #[inline(always)]
 pub fn put_bytes(out: &mut Vec<u8>, number: u32, bytes: &[u8]) -> Result<(), AllocError>
     requires { (1 ≤ number) × (number < 2 ^ 29) }
@@ -279,7 +280,8 @@ fn append_entry(out: &mut Vec<u8>, number: u32, key: &[u8], value: &[u8]) -> Res
 }
 
 /// Appends one entry of a map of texts: an embedded message with the key as field 1 and the value as field 2.
-/// Both are written even if they are empty. If memory is refused, the vector is unchanged.
+/// Both are written even if they are empty. `number` must be from 1 to 536,870,911. If memory is refused, the
+/// vector is unchanged.
 pub fn put_entry(out: &mut Vec<u8>, number: u32, key: &[u8], value: &[u8]) -> Result<(), AllocError>
     requires { (1 ≤ number) × (number < 2 ^ 29) }
     ensures ok { OnOk result (out.new.items
@@ -301,8 +303,8 @@ pub fn put_entry(out: &mut Vec<u8>, number: u32, key: &[u8], value: &[u8]) -> Re
 
 /// Appends a map of texts: one field for each entry, in the order of the iterator. An entry is an embedded
 /// message with the key as field 1 and the value as field 2, also if one of them is empty. If the entries
-/// come in byte order of their keys, equal maps have the same encoding. If memory is refused, the vector is
-/// unchanged.
+/// come in byte order of their keys, equal maps have the same encoding. `number` must be from 1 to
+/// 536,870,911. If memory is refused, the vector is unchanged.
 pub fn put_map<'a, I: Iterator<Item = (&'a [u8], &'a [u8])> + Drop>(
     out: &mut Vec<u8>,
     number: u32,

@@ -10,6 +10,10 @@ use test_kit::{RowFault, bytes_of};
 
 /// Answers a row about a reply. The row is the name of a method, or `-` for no method, and bytes. The answer
 /// is the lines that the client prints for the first reply in the bytes.
+///
+/// # Errors
+///
+/// If the row has no such form, no method has its name, the bytes begin with no reply, or memory is refused.
 pub(crate) fn answer(alloc: Global, row: &str) -> Result<Vec<u8>, RowFault> {
     let (name, notation) = first_word(row)?;
     let method = match name {
@@ -28,6 +32,10 @@ fn first_lines(alloc: Global, method: Option<Method>, bytes: &[u8]) -> Result<Ve
 
 /// Returns the lines that the client prints for a reply. If the body cannot be decoded as the response of
 /// `method`, its line is `malformed`.
+///
+/// # Errors
+///
+/// If memory is refused.
 pub(crate) fn lines_of(
     alloc: Global,
     method: Option<Method>,

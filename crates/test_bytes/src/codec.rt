@@ -19,6 +19,10 @@ use wire::{fields_answer, prefixes_answer, write_answer};
 /// Answers a row about messages. The row is the name of a method, a question and the bytes of a message, such
 /// as `Probe request -`. Some questions need no method. Their row is the question, such as `fields`, and its
 /// arguments.
+///
+/// # Errors
+///
+/// If the row has no such form, no method has its name, or memory is refused.
 pub(crate) fn answer(alloc: Global, row: &str) -> Result<String, RowFault> {
     let (name, rest) = first_word(row)?;
     match name {

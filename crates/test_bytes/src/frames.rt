@@ -19,6 +19,10 @@ use test_kit::{RowFault, bytes_of, bytes_text};
 
 /// Answers a row about frames. The first word names the question, such as `calls` or `head`, and the rest of
 /// the row is its arguments.
+///
+/// # Errors
+///
+/// If the row has no such form, or memory is refused.
 pub(crate) fn answer(alloc: Global, row: &str) -> Result<String, RowFault> {
     let (word, rest) = first_word(row)?;
     match word {

@@ -1,6 +1,7 @@
 //! Answers rows about bytes and what they mean: messages, frames, values, replies, requests, streams of calls
 //! that are served, and calls over a Unix socket with both of its ends in this process. The head of each
-//! section in this crate's file `stdin` describes the rows of the section.
+//! section in this crate's file `stdin` describes the rows of the section. If a row cannot be answered, its
+//! answer is the text of the reason (`test_kit::RowFault`).
 #![tactic(auto)]
 
 mod client;

@@ -13,6 +13,10 @@ const FRAME: &[u8] = b"the frame of a call";
 
 /// Answers a row about tries of a call. The first word is `call` or `pause`, and the other words are its
 /// arguments.
+///
+/// # Errors
+///
+/// If the row has no such form, or memory is refused.
 pub(crate) fn answer(alloc: Global, row: &str) -> Result<String, RowFault> {
     let words = words_of(alloc, row)?;
     match word_at(&words, 0)? {

@@ -14,6 +14,10 @@ use values::{
 
 /// Answers a row about values or configurations. The first word names the question, such as `code` or `map`,
 /// and the rest of the row is its arguments.
+///
+/// # Errors
+///
+/// If the row has no such form, or memory is refused.
 pub(crate) fn answer(alloc: Global, row: &str) -> Result<String, RowFault> {
     let (kind, rest) = first_word(row)?;
     let words = words_of(alloc, rest)?;

@@ -16,6 +16,11 @@ use test_kit::RowFault;
 
 /// Answers a test row: begins the database that the test row names, runs its statements, and adopts the
 /// tables twice under its configuration.
+///
+/// # Errors
+///
+/// If the row has no such form, the database refuses a statement, or memory is refused. A fault of the
+/// adoption is an answer.
 pub(crate) fn answer(alloc: Global, row: &str) -> Result<String, RowFault> {
     let (how, statements) = row.split_once(" |").ok_or(RowFault::NotRow)?;
     let (start, config) = how.split_once(' ').ok_or(RowFault::NotRow)?;
@@ -23,7 +28,8 @@ pub(crate) fn answer(alloc: Global, row: &str) -> Result<String, RowFault> {
     adopt_twice(alloc, without_tables(alloc)?, &config, start, statements)
 }
 
-// Begins the database that `start` names, and runs the statements.
+// Begins the database that `start` names, and runs the statements. After `limited`, each later statement may
+// take one step only, until adopting the tables removes this limit.
 fn begin<S: Alter>(conn: &mut Connection<S>, start: &str, statements: &str) -> Result<(), RowFault>
     requires { conn.old.in_transaction ≡ false }
 {
@@ -43,7 +49,8 @@ fn begin<S: Alter>(conn: &mut Connection<S>, start: &str, statements: &str) -> R
 }
 
 // Adopts the tables, gives the connection back and adopts the tables again. Returns the answer of the first
-// adoption, and also the answer of the second if it differs.
+// adoption, and also the answer of the second if it differs. If both are the same and the tables began with
+// format 1, their format after the first adoption follows.
 fn adopt_twice<S: Alter + Drop>(
     alloc: Global,
     mut conn: Connection<S>,

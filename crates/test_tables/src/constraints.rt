@@ -17,6 +17,10 @@ use std::fmt::{Display, Write};
 use test_kit::{RowFault, number_at, word_at, words_of};
 
 /// Answers a test row: makes the tables, runs the statements of the row, and tests its constraint.
+///
+/// # Errors
+///
+/// If the row has no such form, the database refuses a statement or the scan, or memory is refused.
 pub(crate) fn answer(alloc: Global, row: &str) -> Result<String, RowFault> {
     let (constraint, statements) = row.split_once(" | ").ok_or(RowFault::NotRow)?;
     let config = Config::sample(alloc)?;

@@ -1,7 +1,8 @@
 //! Answers test lines about tables: statements and scans over tables, the constraints on stored rows, the
 //! volume machine over tables, the adoption of tables, tables in files whose disk stopped in a call, and runs
 //! over files. The lines are the rows of this crate's file `stdin` (`test_kit`). The head of each section in
-//! `stdin` describes its lines.
+//! `stdin` describes its lines. If a line cannot be answered, its answer is the text of the reason
+//! (`test_kit::RowFault`).
 #![tactic(auto)]
 
 mod adoption;

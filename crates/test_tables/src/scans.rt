@@ -17,6 +17,10 @@ use std::fmt::Write;
 use test_kit::{RowFault, number_at, word_at, words_of};
 
 /// Answers a test row: begins the database that the test row names, runs its statements, and makes its scan.
+///
+/// # Errors
+///
+/// If the row has no such form, the database refuses a statement or the scan, or memory is refused.
 pub(crate) fn answer(alloc: Global, row: &str) -> Result<String, RowFault> {
     let (start, rest) = row.split_once(" | ").ok_or(RowFault::NotRow)?;
     let (question, statements) = rest.split_once(" | ").ok_or(RowFault::NotRow)?;

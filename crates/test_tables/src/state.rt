@@ -10,8 +10,9 @@ use test_kit::RowFault;
 // The greatest number of volumes that the text shows. No test row makes more volumes.
 const MOST_VOLUMES: u32 = 100;
 
-/// Returns the State of a keeper as a text: the next number, each volume with its mutable parameters and its
-/// nodes, and the bytes and the number of volumes of each pool.
+/// Returns the State of a keeper as a text: the next number, the volumes, and the bytes and the number of
+/// volumes of each pool. Each volume is shown with its number, name, size, pool, mutable parameters and
+/// nodes.
 pub(crate) fn state_text<K: Keeper>(
     alloc: Global,
     config: &Config,

@@ -93,6 +93,10 @@ impl<D: TestDisk> Bench<D> {
     }
 
     /// Answers a test row. Its first word names what is done with the files.
+    ///
+    /// # Errors
+    ///
+    /// If the row has no such form, a run leaves a State that is not allowed, or memory is refused.
     pub(crate) fn answer(&mut self, alloc: Global, row: &str) -> Result<String, RowFault> {
         let (word, rest) = row.split_once(' ').ok_or(RowFault::NotRow)?;
         match word {

@@ -69,7 +69,12 @@ pub(crate) const HEADINGS: [&str; 8] = [
     "NODES",
 ];
 
-/// Makes the row of a volume in the table, with one word for each of [`HEADINGS`].
+/// Makes the row of a volume in the table, with one word for each of [`HEADINGS`]. `nodes` are the ids of the
+/// nodes that the volume is published to.
+///
+/// # Errors
+///
+/// If memory is refused.
 pub(crate) fn row(
     alloc: Global,
     volume: &Volume,

@@ -102,6 +102,11 @@ impl Visit for Lines<'_> {
 
 /// Writes a JSON object of three lists on standard output: the `volumes` that pass the filter, and their sums
 /// for each of the `pools` and the `nodes` that have such volumes.
+///
+/// # Errors
+///
+/// If the volumes cannot be read, standard output cannot be written, or memory is refused. The beginning of
+/// the object may then have been written.
 pub(crate) fn write<S: Alter + Drop>(
     rt: &HostRuntime,
     tables: &mut TablesCopy<'_, S>,

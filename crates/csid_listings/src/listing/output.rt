@@ -3,7 +3,7 @@
 use csid_settings::Failure;
 use std::io::{ErrorKind, Write};
 
-// The number of bytes that are collected before they are written.
+// The number of bytes that are collected before they are written, so that a long list needs few writes.
 const FULL: usize = 1 << 16;
 
 /// Standard output, written in large pieces. Once its reader has gone, further texts are dropped without a
@@ -26,6 +26,10 @@ impl<'a> Output<'a> {
 
     /// Writes the bytes that were collected. If the reader of standard output has gone, drops them without a
     /// failure.
+    ///
+    /// # Errors
+    ///
+    /// If the write fails for another reason. The bytes are dropped then too.
     pub(crate) fn flush(&mut self) -> Result<(), Failure> {
         let mut out = self.rt.stdout();
         let written = out
@@ -43,6 +47,10 @@ impl<'a> Output<'a> {
     }
 
     /// Appends a text, and writes the collected bytes if there are 64 KiB or more.
+    ///
+    /// # Errors
+    ///
+    /// If memory is refused, or the write fails while standard output has a reader.
     pub(crate) fn push(&mut self, text: &str) -> Result<(), Failure> {
         if self.is_gone {
             return Ok(());

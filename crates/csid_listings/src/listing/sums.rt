@@ -53,6 +53,10 @@ impl Counted {
     }
 
     /// Counts a volume once in its pool, and once at each of its nodes.
+    ///
+    /// # Errors
+    ///
+    /// If memory is refused. The volume may then be counted in its pool and at some of its nodes.
     pub(crate) fn add(
         &mut self,
         alloc: Global,

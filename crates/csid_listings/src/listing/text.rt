@@ -41,8 +41,12 @@ fn sums_text(alloc: Global, heading: &'static str, sums: &Sums) -> Result<String
     format!(in alloc; "\n{text}")
 }
 
-/// Writes a row for each volume that passes the filter, then a row for each pool and each node that has such
-/// volumes.
+/// Writes a row for each volume that passes the filter on standard output, then a row for each pool and each
+/// node that has such volumes. The first byte is written after all volumes were read.
+///
+/// # Errors
+///
+/// If the volumes cannot be read, standard output cannot be written, or memory is refused.
 pub(crate) fn write<S: Alter + Drop>(
     rt: &HostRuntime,
     tables: &mut TablesCopy<'_, S>,

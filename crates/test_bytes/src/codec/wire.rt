@@ -60,7 +60,7 @@ fn field_text(alloc: Global, field: &Field<'_>) -> Result<String, RowFault> {
 }
 
 /// Cuts a field to each of its proper prefixes that are not empty. Returns how often the reader finds that
-/// the field at byte 0 is cut short.
+/// the field at byte 0 is cut short, and the number of prefixes, such as `4 of 4`.
 pub(crate) fn prefixes_answer(alloc: Global, notation: &str) -> Result<String, RowFault> {
     let bytes = bytes_of(alloc, notation)?;
     let count = cut_short_of(&bytes);

@@ -5,7 +5,8 @@ use frames_core::{Framer, ReplyFramer};
 use std::alloc::{AllocError, Global};
 use test_kit::RowFault;
 
-// 2^40, which is more than the number of bytes of any row.
+// 2^40, which is more than the number of bytes of any row. A framer must not be fed a stream of 2^63 bytes or
+// more, and this lower bound ensures it.
 const MANY: u64 = 1_099_511_627_776;
 
 /// A framer of calls or of replies.

@@ -51,8 +51,9 @@ pub(crate) fn parts_answer(
     Ok(out)
 }
 
-/// Cuts a frame to each of its proper prefixes that are not empty. Returns the number of prefixes that have
-/// this fault: the input ends early, at the length of the prefix.
+/// Cuts a frame to each of its proper prefixes that are not empty. Returns two numbers, such as `4 of 4`. The
+/// first number counts the prefixes whose fault is that the input ends early, at the length of the prefix.
+/// The second number counts all prefixes.
 pub(crate) fn prefixes_answer(
     alloc: Global,
     kind: FrameKind,

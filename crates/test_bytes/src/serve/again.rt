@@ -13,7 +13,8 @@ impl Trials<'_> {
     ///
     /// # Errors
     ///
-    /// If a second run has another outcome than the wanted outcome, or memory is refused.
+    /// If a second run has another outcome than the wanted outcome, a server reads after a fault or a failed
+    /// write, or memory is refused.
     pub(crate) fn again(&self) -> Result<(), RowFault> {
         for call in 0..self.stream.calls.len() {
             self.again_from(call)?;

@@ -13,9 +13,9 @@ pub(crate) const GREATEST_PIECE: usize = 4096;
 pub(crate) struct Watch {
     // True if all written bytes are flushed.
     is_flushed: Cell<bool>,
-    // True if a fault is known, or writing failed.
+    // True if a fault is known, or a write or a flush failed.
     is_over: Cell<bool>,
-    // True if a read was made after a fault was known or writing failed.
+    // True if a read was made after a fault was known, or after a write or a flush failed.
     has_read_on: Cell<bool>,
 }
 
@@ -29,7 +29,7 @@ impl Watch {
         }
     }
 
-    /// Returns true if the server has read after a fault was known, or after a write failed.
+    /// Returns true if the server has read after a fault was known, or after a write or a flush failed.
     pub(crate) fn has_read_on(&self) -> bool {
         self.has_read_on.get()
     }
@@ -95,8 +95,7 @@ impl<'a> Pieces<'a> {
 }
 
 /// A reader that returns pieces to a server. A read fails if its buffer does not have [`GREATEST_PIECE`]
-/// bytes, if the server has written bytes and not flushed them, or if the pieces have a failing read at this
-/// place.
+/// bytes, if the server has written bytes and not flushed them, or if the pieces let this read fail.
 #[derive(Drop)]
 pub(crate) struct Reader<'a> {
     pieces: Pieces<'a>,
@@ -104,8 +103,8 @@ pub(crate) struct Reader<'a> {
 }
 
 impl<'a> Reader<'a> {
-    /// Makes a reader that returns these pieces. If the server reads after a fault is known or a write has
-    /// failed, the reader notes this in `watch`.
+    /// Makes a reader that returns these pieces. If the server reads after a fault is known, or after a write
+    /// or a flush failed, the reader notes this in `watch`.
     pub(crate) fn new(pieces: Pieces<'a>, watch: &'a Watch) -> Reader<'a> {
         Reader { pieces, watch }
     }

@@ -10,6 +10,10 @@ const MOST_VOLUMES: u32 = 100_000;
 
 /// Returns the State of a keeper as a text: the number that the next volume gets, and each volume with all
 /// its fields and its attachments.
+///
+/// # Errors
+///
+/// If memory is refused.
 pub(crate) fn kept<K: Keeper>(alloc: Global, keeper: &mut K) -> Result<String, RowFault> {
     let next = keeper.next_number().map_err(refused)?;
     let volumes = keeper.page(alloc, 0, MOST_VOLUMES).map_err(refused)?;

@@ -51,7 +51,10 @@ impl Trials<'_> {
     ///
     /// # Errors
     ///
-    /// If a run has another outcome than the wanted outcome, or memory is refused.
+    /// - a run has another outcome or another number of refusals than the wanted one
+    /// - a call of the stream that asks the store is refused in no run, or another call is refused
+    /// - the stream makes a million calls of the store
+    /// - a server reads after a fault or a failed write, or memory is refused
     pub(crate) fn store(&self) -> Result<(), RowFault> {
         let mut seen = 0;
         for at in 0..MOST_CALLS {
@@ -75,7 +78,7 @@ impl Trials<'_> {
         Err(RowFault::Refused("another call than the next was refused"))
     }
 
-    // Returns the first call, from this index on, that asks the store.
+    // Returns the first call, from this index on, that asks the store, or `None` if no call does.
     fn first_asking(&self, from: usize) -> Option<usize> {
         let calls = self.stream.calls.get(from..)?;
         let place = calls.iter().position(|call| call.asks)?;

@@ -15,7 +15,8 @@ impl Trials<'_> {
     ///
     /// # Errors
     ///
-    /// If a run has another outcome than the wanted outcome, or memory is refused.
+    /// If a run has another outcome or another number of refusals than the wanted one, the log is asked a
+    /// million times, a server reads after a fault or a failed write, or memory is refused.
     pub(crate) fn change_store(&self) -> Result<(), RowFault> {
         for at in 0..MOST_CALLS {
             let trial = Trial {
@@ -47,7 +48,8 @@ impl Trials<'_> {
     ///
     /// # Errors
     ///
-    /// If a run has another outcome than the wanted outcome, or memory is refused.
+    /// If a run has another outcome or another number of refusals than the wanted one, the keeper in memory
+    /// is asked a million times, a server reads after a fault or a failed write, or memory is refused.
     pub(crate) fn memory(&self) -> Result<(), RowFault> {
         for at in 0..MOST_CALLS {
             if !self.refuse_in_memory(at)? {

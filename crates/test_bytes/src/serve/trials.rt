@@ -22,7 +22,13 @@ pub(crate) struct Trials<'a> {
     pub(crate) kept: &'a [String],
 }
 
-/// Returns the State before the first call of a stream, and then the State after each call.
+/// Returns the State before the first call of a stream, and then the State after each call. Each State is the
+/// State after a run over the calls up to this call.
+///
+/// # Errors
+///
+/// If the name or the version of the server is too long, the server reads after a fault or a failed write, or
+/// memory is refused.
 pub(crate) fn kept_after_each(
     alloc: Global,
     server: Server<'_>,
@@ -44,7 +50,8 @@ impl Trials<'_> {
     ///
     /// # Errors
     ///
-    /// If a trial has another outcome than the wanted outcome, or memory is refused.
+    /// If a trial has another outcome than the wanted outcome, a server reads after a fault or a failed
+    /// write, the stream makes a million calls of a store, or memory is refused.
     pub(crate) fn all(&self) -> Result<&'static str, RowFault> {
         self.pieces()?;
         if self.stream.input.len() > LONGEST {

@@ -65,6 +65,10 @@ pub(crate) fn holding(alloc: Global, bytes: &[u8]) -> Result<Memory, RowFault>
 
 /// Makes a database in a pair of files with these bytes, and counts the outcome in `laid`. `page` is the
 /// content of a new database file.
+///
+/// # Errors
+///
+/// If memory is refused.
 pub(crate) fn lay(
     alloc: Global,
     page: &[u8],

@@ -171,10 +171,18 @@ impl Wanted<'_> {
     }
 
     /// Compares the reply and the State after a run with the reply and the State of a run without a stop.
+    /// These rules must hold:
+    ///
+    /// - The reply is empty, the reply of a run without a stop, or a refusal with the status INTERNAL. If no
+    ///   file stopped, it is the reply of a run without a stop.
+    /// - If the call was answered as without a stop, or if no file stopped, the next start finds the State
+    ///   after the call. Otherwise it finds the State before or after the call.
+    /// - The same call, made again, gets the reply and leaves the State of a run without a stop.
     ///
     /// # Errors
     ///
-    /// If the reply or the State is not allowed after this stop, or if memory is refused.
+    /// [`RowFault::Differs`] if one of the rules does not hold, or [`RowFault::NoMemory`] if memory is
+    /// refused.
     pub(crate) fn judge(
         &self,
         stop: Stop,

@@ -12,6 +12,10 @@ use std::alloc::{AllocError, Global};
 use test_kit::{RowFault, number_at, word_at, words_of};
 
 /// Calls the method of the keeper that a test row names, and returns the answer as a text.
+///
+/// # Errors
+///
+/// If the row names no method or lacks a word, the keeper refuses the call, or memory is refused.
 pub(crate) fn call<K: Keeper>(
     alloc: Global,
     keeper: &mut K,
