@@ -99,7 +99,8 @@ class System:
                 shutil.copy(library, self.path(library))
 
     def dpkg(self, *words):
-        """Runs dpkg. Returns its exit status, and how the scripts called systemd."""
+        """Runs dpkg. Returns its exit status, the lines of errors of csid's scripts and of dpkg, and how the
+        scripts called systemd."""
         self.write("calls", "", 0o644)
         status, _, error = run("dpkg", "--root=" + self.root, "--log=" + self.path("dpkg.log"),
                                "--force-depends", "--force-confold", *words)
@@ -140,7 +141,7 @@ class System:
             process.wait()
 
     def tables(self):
-        """Returns the checksums of the file of volumes and of its WAL."""
+        """Returns the checksums of the file of volumes and of its WAL, for each that exists."""
         return {name: checksum(self.path(name))
                 for name in (TABLES, TABLES + "-wal")
                 if os.path.exists(self.path(name))}
@@ -218,7 +219,7 @@ def lintian_rows(package):
 
 
 def called(system, *words):
-    """Returns the output of csictl for a call, after its first line."""
+    """Makes a call by csictl. Returns its status, its output after the first line, and its errors."""
     status, out, error = system.inside("/usr/bin/csictl", "call", "--socket", "/" + CSID_SOCKET, "--method",
                                        *words)
     return status, out.partition("\n")[2].strip(), error
@@ -248,7 +249,7 @@ def use_rows(programs, system):
 
 
 def later(package, folder):
-    """Returns the path of a package with a later version."""
+    """Makes a package with a later version, and returns its path."""
     tree, made = os.path.join(folder, "later"), os.path.join(folder, "later.deb")
     run("dpkg-deb", "--raw-extract", package, tree)
     control = os.path.join(tree, "DEBIAN", "control")

@@ -18,7 +18,8 @@ CSID, CSICTL, FRONT, ETCD = ("crates/csid/out/csid", "crates/csictl/out/csictl",
                              "go/etcd/out/csid-etcd")
 USAGE = "release: usage: ./release [--out FOLDER | --check]\n"
 NO_KIT = "%s: 'rt' is not on the PATH: the Rattle toolchain is needed (README.md, 'Build, run, test')\n"
-# For each row: the programs that exist, the files that are newer, and the line that ./release prints.
+# For each row: the programs that exist, the file that is newer than they (None: no file), and the line that
+# ./release prints.
 REFUSED = [
     ([], None, BUILD % (CSID, "./build")),
     ([CSID, FRONT], None, BUILD % (CSICTL, "./build")),
@@ -174,7 +175,8 @@ def clone(folder):
 
 
 def touch(path, seconds):
-    """Makes a file unless it exists, and sets its date to `seconds` after the clone."""
+    """Makes a file unless it exists, and makes it executable. Its date is `seconds` after the date of this
+    file."""
     os.makedirs(os.path.dirname(path), exist_ok=True)
     with open(path, "a"):
         pass
@@ -231,7 +233,7 @@ PLAYED = {
 
 
 def difference_rows(is_etcd):
-    """A check makes two releases, and reports if they differ by folder, time zone or umask."""
+    """A check makes two releases, and reports if they differ: by folder, time zone, umask or chance."""
     said = "release: two releases of the same programs differ\n"
     with tempfile.TemporaryDirectory() as folder:
         top = os.path.join(folder, "csid")

@@ -137,7 +137,7 @@ class Cluster:
         self.tls.load_cert_chain(certificate, key)
 
     def sign(self, name, subject, extension):
-        """Makes a key and its certificate."""
+        """Makes a key, and a certificate of it from the CA."""
         pathlib.Path(self.path("extension")).write_text(extension)
         files = "-keyout %s.key -out %s.csr" % (name, name)
         self.openssl("req -newkey rsa:2048 -nodes -subj %s %s" % (subject, files))
@@ -159,8 +159,8 @@ class Cluster:
             json.dump(config, file)
 
     def ask(self, method, path, body=None, user=None):
-        """Sends a request as the administrator, or as another user. Returns the status and the object of the
-        answer."""
+        """Sends a request as the administrator, or as another user. Returns the status, and the object of the
+        answer, or its text if it is no object."""
         options = {"context": self.tls, "timeout": SECONDS}
         connection = http.client.HTTPSConnection("127.0.0.1", self.port, **options)
         kind = "application/merge-patch+json" if method == "PATCH" else "application/json"

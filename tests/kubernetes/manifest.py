@@ -102,7 +102,7 @@ def missing(meant, found, path=""):
 
 
 def bare(one):
-    """Returns an object without the fields that the server writes, such as its version."""
+    """Returns an object without its metadata and status, and its generation."""
     own = {key: value for key, value in one.items() if key not in ("metadata", "status")}
     return own, one["metadata"].get("generation")
 

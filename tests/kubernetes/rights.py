@@ -4,7 +4,7 @@ from tests.kubernetes.manifest import ACCOUNT, OTHER
 from tests.support.data import tables
 
 ROWS = tables("kubernetes-rights", {})
-# What the account may read with its token.
+# What the account may (True) or may not (False) read with its token.
 GETS = [
     ("persistentvolumes", True),
     ("csistoragecapacities -n csid", True),
