@@ -91,7 +91,7 @@ class Breaker:
 
 
 def calls_of_vectors():
-    """Returns the calls of tests/vectors."""
+    """Returns the calls of tests/vectors, each as its path and its message."""
     calls = []
     for line in corpus.lines():
         digits = line.split(" ")[1] if line and line[0] != "#" else "-"
@@ -102,8 +102,8 @@ def calls_of_vectors():
 
 
 def reading(stream):
-    """Returns the number of calls in a stream, and the text of the fault that ends it (docs/PROTOCOL.md,
-    "Streams")."""
+    """Returns the number of calls in a stream, and the text of the fault that ends it, or None for a whole
+    stream (docs/PROTOCOL.md, "Streams")."""
     at = count = 0
     cut = "end of input at byte %d" % len(stream)
     while at < len(stream):
@@ -142,7 +142,8 @@ def replies_in(stream):
 
 
 def is_ok(reply):
-    """Returns True if the bytes are one OK reply. Returns None if more bytes follow one."""
+    """Returns True if the bytes are one OK reply, None if more bytes follow one, and False for other bytes.
+    """
     size = 8 + int.from_bytes(reply[4:8], "big")
     if len(reply) < 8 or reply[:4] != bytes(4) or not size <= min(len(reply), 8 + 4 * MIB):
         return False
@@ -254,12 +255,12 @@ def calls(source, corpus):
     return breaker.bytes(whole) if source.randrange(2) else whole
 
 
-# The weight of each kind.
+# For each kind, its weight in the random choice.
 KINDS = {raw_bytes: 10, any_frames: 10, long_headers: 1, reset_calls: 10, silent_calls: 10,
          pings_and_settings: 10, calls: 50}
 
 
 def broken_http(source, corpus):
-    """Returns an input for the front, and its kind."""
+    """Returns a random kind of input for the front, and an input of this kind."""
     [kind] = source.choices(list(KINDS), list(KINDS.values()))
     return kind.__name__, (b"" if kind is raw_bytes else HELLO) + kind(source, corpus)

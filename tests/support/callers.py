@@ -38,11 +38,11 @@ def connection(path, patience):
 class Fronts:
     """Fronts on whose control sockets clients call."""
 
-    # The paths of the control sockets. The first one is the last one that answered the client.
+    # The paths of the control sockets. The path of the front that answered last is the first.
     paths = []
     # The seconds for which a client waits for a reply, and the statuses that count as no reply.
     patience, unheard = SECONDS, ()
-    # The histories, of each twenty, in which a program is killed.
+    # The numbers of the histories in which a program is killed, of each twenty.
     killed = (4, 11)
 
     def connect(self):
@@ -81,7 +81,7 @@ class Plugin(Fronts):
             raise ValueError("csid has no socket")
 
     def kill(self):
-        """Kills csid, and starts another one over the same file."""
+        """Kills csid, and starts another one over the same file, or over a new file if the plugin forgets."""
         self.process.send_signal(signal.SIGKILL)
         self.process.wait(SECONDS)
         os.unlink(self.socket)
@@ -110,7 +110,8 @@ class Caller:
         self.repeats, self.source, self.peer = repeats, source, None
 
     def connect(self):
-        """Connects to a front that serves, unless the client is connected."""
+        """Connects to a front that serves, unless the client is connected. Raises TimeoutError if no front
+        serves."""
         until = time.monotonic() + SECONDS
         while not self.peer:
             if time.monotonic() > until:

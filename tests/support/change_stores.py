@@ -30,7 +30,8 @@ class ChangeStore:
             threading.Thread(target=self.serve, args=(peer,), daemon=True).start()
 
     def serve(self, peer):
-        """Answers calls until a call has no reply."""
+        """Answers calls until the connection ends, or until a call has no reply. Then the connection is
+        closed."""
         with peer, peer.makefile("rb") as stream:
             while frame := next_frame(stream):
                 reply = (self.answer(*frame)
@@ -156,7 +157,7 @@ class KeptChangeStore(ChangeStore):
         return page(*first, *rows[told:then], token=b"%d" % then if then < len(rows) else b"")
 
     def make(self, number, values):
-        """Makes a change, if the rows meet its condition."""
+        """Makes a change, and returns True, if the rows meet its condition."""
         at = values[0]
         if number == 1:
             name, size, pool, caps, params = values[1:]

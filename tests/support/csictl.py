@@ -72,7 +72,8 @@ def text(came):
 
 
 class Server(Served):
-    """csid at a socket, with its file in the same folder."""
+    """csid at a socket, with its file in the same folder. `shell` is what the shell command that starts csid
+    has after csid's words, such as a redirection."""
 
     def __init__(self, csid, path, *words, tables=None, shell=None, **how):
         self.path, self.tables = path, path + ".db" if tables is None else tables
@@ -89,7 +90,8 @@ class Server(Served):
         return self.end()
 
     def end(self):
-        """Ends csid. Returns its lines, without the line about the contents of the file, and its status."""
+        """Waits until csid has ended. Returns its lines, without the line about the contents of the file, and
+        its status."""
         self.process.wait(timeout=SECONDS)
         os.unlink(self.path)
         held = "(?m)^csid: %s: (%s|volumes .*)\n" % (re.escape(self.tables), NEW)

@@ -31,12 +31,13 @@ def capabilities(keys):
 
 
 def entries(field, pairs):
-    """Returns the fields for the entries of a map."""
+    """Returns the fields for the entries of a map, sorted by key."""
     return b"".join(field(key, value) for key, value in sorted(pairs.items()))
 
 
 def serves(pool, term):
-    """Returns True if one of the two contains the other, if the case of letters in keys is ignored."""
+    """Returns True if the segments of the pool contain the term, or the term contains them. Upper and lower
+    case are the same in keys."""
     segments, term = {("zone", pool.zone)}, {(key.lower(), value) for key, value in term.items()}
     return segments <= term or term <= segments
 
@@ -257,8 +258,8 @@ class Requests:
                            (0, 0))
 
     def topology(self):
-        """Returns topology requirements: one requisite or one preferred term, or two requisite terms of which
-        the first is preferred."""
+        """Returns topology requirements: mostly none, otherwise one requisite or one preferred term, or two
+        requisite terms of which the first is preferred."""
         one, other = self.term(), self.term()
         return self.one_of(([one], []), ([], [one]), ([one, other], [one]), *[([], [])] * 6)
 

@@ -55,12 +55,13 @@ class PlayedServer:
         return self.calls
 
     def pauses(self):
-        """Returns the seconds between the connections."""
+        """Returns the seconds from the start of each connection to the start of the next one."""
         return [later - earlier for earlier, later in zip(self.moments, self.moments[1:])]
 
 
 class Peer(PlayedServer):
-    """A server that does one thing on each connection."""
+    """A server that takes one part of its script on each connection: it reads all calls and sends the part as
+    the reply, or does what CLOSED, RESET or SILENT says."""
 
     def __init__(self, folder, script):
         self.silent = []
@@ -102,7 +103,8 @@ def next_call(calls):
 
 
 class Pages(PlayedServer):
-    """A server that answers the calls of a connection in order. At CLOSED it closes the connection."""
+    """A server that answers the calls of a connection with the replies of a part, in order. At CLOSED it
+    closes the connection."""
 
     def play(self, peer, part):
         with peer, peer.makefile("rb") as calls:

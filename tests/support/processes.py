@@ -37,7 +37,7 @@ def place(name):
 
 
 def program(name):
-    """Returns the path of a built program."""
+    """Returns the path of a built program. Raises FileNotFoundError if it is not built."""
     path = place(name)
     if not os.access(path, os.X_OK):
         raise FileNotFoundError("no program at %s: ./build makes it" % path)
@@ -136,7 +136,8 @@ def as_nobody():
 
 
 def fill(folder):
-    """Fills the disk of a folder to the last byte. The file that this writes can be removed to make room."""
+    """Fills the disk of a folder. Returns the path of the file that fills it, which can be removed to make
+    room."""
     path = os.path.join(folder, "filler")
     try:
         with open(path, "wb", buffering=0) as file:
@@ -161,7 +162,7 @@ def little_room():
 
 
 def wait(happens, seconds=SECONDS, pause=0.01):
-    """Returns True if something happens in time."""
+    """Calls `happens` until it returns a true value, and returns True. Returns False after `seconds`."""
     end = time.monotonic() + seconds
     while not happens():
         if time.monotonic() > end:
@@ -215,8 +216,9 @@ def small_disk(folder):
 
 
 def copy_for_nobody(csid, folder):
-    """Copies csid for the user `nobody`, since root may read every file. Returns the path, and the function
-    that changes the user. If that is not possible, the test is skipped."""
+    """Copies csid for the user `nobody`, since root may read every file. Returns the path of the copy, and
+    the arguments of `run` that change the user from root to `nobody`. If that is not possible, the test is
+    skipped."""
     os.chmod(folder, 0o777)
     copy = shutil.copy(csid, os.path.join(folder, "csid"))
     os.chmod(copy, 0o755)

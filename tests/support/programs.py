@@ -86,7 +86,7 @@ class Run:
 
 
 class Program:
-    """A program with a socket. It is started again after it has ended."""
+    """A program with a socket. `revive` starts it again if it has ended."""
 
     def __init__(self, run, socket_name, *words, clocks=None, **how):
         self.run, self.socket, self.words, self.clocks, self.how = (run, run.path(socket_name), words, clocks,
@@ -191,7 +191,7 @@ class Etcd(etcd.Etcd):
                 for it in told.get("kvs", [])}
 
     def rows(self, **how):
-        """Returns each row, with its revision."""
+        """Returns each row with its value and its revision, without the keys of the lock."""
         return {key: it
                 for key, it in self.ask("range", NAME.encode() + b"/", **how).items()
                 if not key.startswith(NAME + "/lock/")}
@@ -257,7 +257,8 @@ def asked(path, *calls, seconds=SECONDS):
 
 
 class Frames:
-    """A client of csid."""
+    """A client of csid on one connection. A reply is a body, or None if the call is refused, and a text with
+    the status. Without a reply, `ask` raises OSError."""
 
     def __init__(self, path, seconds=SECONDS):
         self.peer = connected(path, seconds)
@@ -318,7 +319,8 @@ class Grpc:
 
 
 def once(path, method, message, seconds):
-    """Makes a call on a new connection. Returns the body, or None."""
+    """Makes a gRPC call on a new connection. Returns the body, or None if the call is refused or not
+    answered."""
     try:
         client = Grpc(path, seconds)
         try:

@@ -13,8 +13,8 @@ from tests.support.etcd import Etcd
 from tests.support.processes import SECONDS, wait
 
 NAME, LEASE = "pools.example.org", 2
-# The ways to end csid, or csid-etcd by a signal. After SIGTERM csid-etcd releases the lock at once, otherwise
-# it keeps the lock until its lease ends.
+# The faults of the replica that serves, in turn: csid is killed, or csid-etcd gets a signal. After SIGTERM
+# csid-etcd releases the lock at once, otherwise it keeps the lock until its lease ends.
 FAULTS = ["csid", signal.SIGTERM, signal.SIGKILL, signal.SIGTERM, signal.SIGSTOP]
 
 

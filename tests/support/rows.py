@@ -17,7 +17,7 @@ MOST_SHOWN = 300
 
 
 def shown(part):
-    """Returns a value as it is shown in a failure."""
+    """Returns a value as a text for a failure. Bytes are in hexadecimal, and a long text is cut off."""
     if isinstance(part, tuple):
         return "(%s)" % ", ".join(map(shown, part))
     text = "hex " + part.hex() if isinstance(part, bytes) else repr(part)
@@ -65,7 +65,8 @@ class RowTest(unittest.TestCase):
         folder = tempfile.TemporaryDirectory()
         self.addCleanup(folder.cleanup)
         self.folder = folder.name
-        # The lines of a server go to a file without a name, which is closed at the end of the test.
+        # The file with the lines of a server is closed only when the server object goes, and Python would
+        # warn of this.
         warnings.simplefilter("ignore", ResourceWarning)
         signal.signal(signal.SIGALRM, fail_late)
         signal.alarm(self.longest)
@@ -126,7 +127,7 @@ class CsictlTest(CsidTest):
 
 
 class ProgramTest(RowTest):
-    """A test of several programs. It is skipped if one is missing."""
+    """A test of several programs. Their paths are set, but the programs may be missing."""
 
     def setUp(self):
         super().setUp()

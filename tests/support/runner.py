@@ -46,7 +46,7 @@ class Outcome:
 
 
 class Text(io.StringIO):
-    """The stream of a result."""
+    """A text in memory, with the method `writeln` that a result calls."""
 
     def writeln(self, line=""):
         self.write(line + "\n")
@@ -61,7 +61,7 @@ def reports(result, found):
 
 
 def run_suite(suite, verbosity, settings):
-    """Runs a suite in this process."""
+    """Runs a suite in this process. Returns its outcome. `settings` are attributes of the result."""
     result, begin = unittest.TextTestResult(Text(), True, verbosity), time.monotonic()
     vars(result).update(settings)
     suite.run(result)
@@ -77,7 +77,8 @@ def send_outcome(sender, names, filters, *how):
 
 
 def run_apart(name, tests, *how):
-    """Runs the tests of a class in another process."""
+    """Runs the tests of a class in another process. Returns their outcome, or an outcome with one error if
+    the process ends without an outcome."""
     context = multiprocessing.get_context("spawn")
     receiver, sender = context.Pipe(duplex=False)
     process = context.Process(target=send_outcome, args=(sender, [test.id() for test in tests], *how))
@@ -124,7 +125,8 @@ class Runner(unittest.TextTestRunner):
         return super().run(run)
 
     def run_classes(self, classes, result):
-        """Adds the outcomes of the classes to a result, in the order of the suite."""
+        """Adds the outcomes of the classes to a result, in the order of the suite. With `failfast`, no class
+        is started after a failed one."""
         settings = {it: getattr(result, it) for it in ("buffer", "failfast", "tb_locals")}
         pool, runs, outcomes = concurrent.futures.ThreadPoolExecutor(len(os.sched_getaffinity(0))), {}, {}
         for name in sorted(classes, key=place):

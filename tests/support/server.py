@@ -61,7 +61,8 @@ class Served:
         return peer
 
     def ask(self, *calls):
-        """Makes calls on a new connection. Returns all bytes that come back."""
+        """Makes calls on a new connection. Returns all bytes that come back, or none if csid closes the
+        connection before it has all calls."""
         with self.connect() as peer, contextlib.suppress(BrokenPipeError, ConnectionResetError):
             peer.sendall(b"".join(calls))
             peer.shutdown(socket.SHUT_WR)
@@ -101,7 +102,8 @@ class Server(Served):
         return self.line("volumes %d, attachments %d, next number %d, format 2" % counts)
 
     def end(self):
-        """Ends csid. Returns all its lines, its status, and True if its socket is left."""
+        """Ends csid, and removes its socket. Returns all its lines, its status, and True if it had left its
+        socket."""
         if self.process.poll() is None:
             self.process.kill()
         status = self.process.wait()

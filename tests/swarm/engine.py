@@ -33,7 +33,7 @@ max_volumes = 2
 
 
 def missing(root):
-    """Returns a line for each missing requirement."""
+    """Yields a line for each missing requirement."""
     if os.geteuid() != 0:
         yield "it needs root"
     for name in ["unshare", "nsenter", "setpriv", "losetup", "ip", "tar"]:
@@ -138,12 +138,12 @@ class Engine:
             return file.read().strip()
 
     def run(self, *words, **how):
-        """Runs a command in the namespaces of dockerd."""
+        """Runs a command in the namespaces of dockerd. Returns the completed process."""
         command = ["nsenter", "--target", self.first_process(), "--all", *words]
         return subprocess.run(command, capture_output=True, text=True, timeout=SECONDS, **how)
 
     def docker(self, *words):
-        """Returns the output of a command of docker."""
+        """Returns the output of a command of docker. Raises RuntimeError if it fails."""
         done = self.run("docker", *words)
         if done.returncode != 0:
             raise RuntimeError("docker %s: %s" % (" ".join(words), done.stderr.strip()))

@@ -13,7 +13,7 @@ FORMS = [
     ("multi", "onewriter", "block", "MULTI_NODE_SINGLE_WRITER"),
     ("multi", "all", "block", "MULTI_NODE_MULTI_WRITER"),
 ]
-# Volumes that csid refuses: one node may write while others have the file system mounted.
+# Volumes that csid refuses: a file system is mounted at several nodes, and one or all of them may write.
 UNSUPPORTED = [("multi", "onewriter", "mount", None), ("multi", "all", "mount", None)]
 KILLS, CREATES = 8, 30
 
