@@ -55,7 +55,7 @@ PROBE = call(IDENTITY + "Probe", "")
 
 class CallTest(CsictlTest):
     def call(self, path, *words, **how):
-        """Returns the output of csictl for a call to a socket."""
+        """Makes a call to a socket by csictl. Returns the output, the errors and the status."""
         return text(run([self.csictl, "call", "--socket", path, "--method", *words], input=b"", **how))
 
     def serve(self, *words):
@@ -189,8 +189,8 @@ class PeerTest(CallTest):
     """Servers that answer in another way than csid."""
 
     def ask(self, serve):
-        """Returns the output of csictl for a call that a function answers. The function gets the connection.
-        PATH is the socket."""
+        """Makes a call by csictl that a function answers, and returns the output, the errors and the status.
+        The function gets the connection. In the errors, PATH is the path of the socket."""
         listener, path = self.listen(1)
 
         def answer():
@@ -277,7 +277,8 @@ class PlaceTest(CallTest):
     """Without --socket the environment names the socket, and otherwise it is at the path of the units."""
 
     def probe(self, *before, program=None, **variables):
-        """Returns the output of csictl for a Probe, possibly started by another command."""
+        """Makes a Probe by csictl, which another command may start. Returns the output, the errors and the
+        status."""
         rest = {name: value for name, value in os.environ.items() if name != "CSID_SOCKET"}
         words = [*before, program or self.csictl, "call", "--method", "Probe"]
         return text(run(words, input=b"", env={**rest, **variables}))
@@ -315,7 +316,8 @@ class PlaceTest(CallTest):
                 self.assertEqual(self.probe(*self.in_run(made), CSID_SOCKET=variable), wanted)
 
     def test_place_that_may_not_be_looked_into_is_taken(self):
-        """This user cannot see if it exists, so connecting reports why it fails."""
+        """The user `nobody` cannot see if the control socket exists, so connecting to it reports why it
+        fails."""
         if os.geteuid() != 0 or not shutil.which("setpriv"):
             self.skipTest("the user nobody cannot be taken here")
         program, _ = copy_for_nobody(self.csictl, self.folder)

@@ -149,7 +149,7 @@ BLOCK = "1a060a001a020801"
 CONTEXT = ok("0a110a08726561646f6e6c79120566616c7365")
 
 
-# The calls of a removal, and of the page that begins with the volume.
+# The call that deletes vol-1, and the page with vol-1 while it is published to n1.
 DELETE = call(CONTROLLER + "DeleteVolume", ID)
 AT_N1 = ok(entry("vol-1", GIB, [], ["n1"]))
 
@@ -180,7 +180,7 @@ class SlowPages(Pages):
 
 
 class AskTest(CsictlTest):
-    """A test that runs csictl over a socket. A shell splits the line into words."""
+    """A test that runs csictl over a socket. The line is split into words as a shell does it."""
 
     def ask(self, path, line):
         return text(run([self.csictl, *shlex.split(line), "--socket", path], input=b""))

@@ -50,7 +50,8 @@ EXPLAINED = dict(ROWS["EXPLAINED"])
 
 
 def explained(name, line):
-    """Returns the lines before the line of a row, if any."""
+    """Returns what `csid --check-tables` prints before the line of the refusal, or None if it prints nothing.
+    """
     is_of_a = line.startswith("volume 1") and KIND not in line
     return EXPLAINED.get(name, BROKEN_A if is_of_a else None)
 

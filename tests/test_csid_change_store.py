@@ -40,7 +40,8 @@ class PlayedStore(change_stores.ChangeStore):
 
     @property
     def leads(self):
-        """Returns True if it leads: the next value of the list each time, and then the last one again."""
+        """True if the store leads: the next value of `turns`, or the value that was set if `turns` is empty.
+        """
         return self.turns.pop(0) if self.turns else self.is_leading
 
     @leads.setter
@@ -150,7 +151,8 @@ class DrippingStore(DeafStore):
 
 
 def stalled(csid, folder, log, call):
-    """Makes a call whose change a store does not answer. Returns the result, and the time that it takes."""
+    """Makes a call whose change a store does not answer. Returns the reply, True if it took 29 to 60 seconds,
+    and the lines of csid."""
     os.mkdir(folder)
     server = Server(csid, folder, page(meta(1)), log=log)
     begin = time.monotonic()
@@ -165,7 +167,8 @@ def stalled(csid, folder, log, call):
 
 
 def nobody(csid, folder):
-    """csid over a socket that does not exist: it continues, and answers no call."""
+    """Runs csid over a change store whose socket does not exist, and makes a Probe. Returns the bytes that
+    come back, and the exit status of csid."""
     path = os.path.join(folder, "csid.sock")
     process = subprocess.Popen([csid, "serve", "--socket", path, "--log", os.path.join(folder, "none"),
                                 "--connections", "1"], stdin=subprocess.DEVNULL, stdout=subprocess.DEVNULL,
@@ -332,7 +335,8 @@ class LeadTest(PlayedTest):
         return self.serve(page(meta(2), volume(1, "a")), page(meta(3), volume(2, "b")))
 
     def ask_after(self, server, event, *calls):
-        """Returns the reply to a Probe, and the result of each call after an event."""
+        """Yields the bytes that answer each call, if an event happens between a Probe and these calls. The
+        last bytes are all up to the end of the connection."""
         with server.connect() as peer:
             peer.sendall(v.probe())
             self.assertEqual(peer.recv(1 << 16), v.READY)
@@ -399,7 +403,8 @@ class SlowReaderTest(CsidTest):
         return store
 
     def read_late(self, calls, count):
-        """Makes calls, and reads the first bytes of the replies only after three seconds."""
+        """Makes calls, and reads the replies only after three seconds. Reading must then take less than five
+        seconds. Returns the replies."""
         with self.server.connect() as peer:
             threading.Thread(target=peer.sendall, args=(calls,), daemon=True).start()
             time.sleep(3)

@@ -72,7 +72,8 @@ class CopyTest(CsidTest):
         ]
 
     def count(self, name, *copies):
-        """Returns the number of volumes in the first of these copies that csid accepts."""
+        """Checks a file whose reads give these copies, one after another, until csid accepts a copy. Returns
+        the output, the errors and the status."""
         tables = Tables(self.csid, self.folder, name + ".db")
         for ending in "", "-journal", "-wal":
             os.mkfifo(tables.path + ending)

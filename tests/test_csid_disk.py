@@ -43,7 +43,8 @@ class DiskTest(CsidTest):
         return process
 
     def finish(self, process, calls):
-        """Makes further calls and ends csid. Returns the result."""
+        """Makes further calls and ends csid. Returns the replies, the lines on standard error and the status.
+        """
         out, error = process.communicate(calls, timeout=SECONDS)
         return out, error.decode(), process.returncode
 
@@ -225,7 +226,7 @@ class FullDiskTest(DiskTest):
                 self.assertEqual(self.listed(copy), wanted)
 
     def test_server_goes_on_and_serves_changes_once_there_is_room(self):
-        """csid needs no restart, and writes a line for each refused connection."""
+        """csid needs no restart, and writes two lines for each connection with a refused change."""
         server = self.serve(tables=self.tables.path)
         begun = server.line(NEW) + server.has(0, 0, 1)
         down = server.line("the database refused a call: " + FULL) + server.line(DOWN)
@@ -290,7 +291,7 @@ class RefusedReadTest(DiskTest):
     """Pages of a file are overwritten while a connection has it open."""
 
     def check_reads(self, wanted, said, *words):
-        """Reads of a volume behind the overwritten page have these replies, and csid writes these lines."""
+        """Reads of a volume on an overwritten page have these replies, and csid writes these lines."""
         config = self.configure_much()
         listing = controller("ListVolumes", bytes.fromhex("0801 1204") + b"2000")
         params = "UPDATE volumes SET params = %s;" % cell(pairs(4, b"k", 4090))
@@ -323,7 +324,8 @@ class RefusedCopyTest(DiskTest):
     """A read fails while the volumes are copied into memory for a connection."""
 
     def serve_once(self, *injected):
-        """Runs a csid that serves one connection. Returns its reads, its replies and its lines."""
+        """Runs a csid that serves one connection with a Probe. Returns the number of its reads, its reply and
+        its lines."""
         trace, traced = (os.path.join(self.folder, name) for name in ("trace", "traced"))
         command = ["strace", "-f", "-o", trace, "-e", "trace=pread64", *injected, self.csid]
         write(traced, b'#!/bin/sh\nexec %s "$@"\n' % shlex.join(command).encode())
@@ -366,8 +368,8 @@ class SyncTest(DiskTest):
         return re.findall(r"(\w+)\((\d+)<([^>]*)>", read(self.trace).decode())
 
     def test_reply_is_written_after_a_sync_of_its_commit(self):
-        """The last step of the WAL before a reply is a sync after a write. Later replies need only the sync.
-        """
+        """The last step of the WAL before a reply is a sync after a write. Before the second and the third
+        reply it is the only sync."""
         creates = [CREATE_A.replace(b"\x0a\x01a", b"\x0a\x01" + name) for name in (b"a", b"b", b"c")]
         answers = [reply(VOLUME_1.replace(b"vol-1", b"vol-%d" % number)) for number in (1, 2, 3)]
         calls = b"".join(controller("CreateVolume", it) for it in creates)

@@ -280,7 +280,8 @@ class ServedListTest(ListedTest):
                 self.server.stdout.read(int.from_bytes(head[4:8], "big"))
 
     def check_moment(self, found):
-        """A listing shows one moment. Returns the temporary volume in it, if any."""
+        """A listing shows one moment. Returns the greatest number in it, and how many temporary and how many
+        attached volumes it has."""
         numbers = [int(one["id"][4:]) for one in found["volumes"]]
         last = max(numbers, default=0)
         others = [n for n in numbers if n % 10]

@@ -17,7 +17,8 @@ ROWS = tables("csid_pipe", globals())
 
 
 def by_turns(csid, pieces, expected):
-    """Sends pieces one by one. Reads the expected bytes after each piece."""
+    """Sends pieces one by one, and reads `expected` bytes after each piece. Returns the output, the errors
+    and the status."""
     process = subprocess.Popen([csid], stdin=subprocess.PIPE, stdout=subprocess.PIPE, stderr=subprocess.PIPE,
                                bufsize=0)
     out = b""

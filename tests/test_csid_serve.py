@@ -365,7 +365,8 @@ class EndsTest(ServeTest):
         return self.server.lines()[len(self.begun) :]
 
     def check_counts(self, line, counts):
-        """The ends have a line, or are in a count."""
+        """Waits until all ended connections are reported, and compares how many have a line and how many are
+        in each count."""
         wait(lambda: sum(ended(self.new_lines(), line).values()) == sum(counts.values()))
         self.assertEqual(dict(ended(self.new_lines(), line)), counts)
 

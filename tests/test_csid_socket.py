@@ -71,7 +71,7 @@ class TakenSocketTest(SocketTest):
     """Sockets that cannot be made: the status is 7, and the line has the path and the reason."""
 
     def refuse(self, path, *words):
-        """Returns the lines and the status of `csid serve`."""
+        """Returns the output, the lines and the status of a `csid serve` that ends at once."""
         command = [self.csid, "serve", "--socket", path, "--tables", self.path("taken.db"), *words]
         return text(run(command, input=b""))
 
@@ -112,7 +112,7 @@ class TakenSocketTest(SocketTest):
         self.assertEqual(server.end(), ("", 0))
 
     def test_no_tables_are_made_without_a_configuration(self):
-        """The configuration is judged before the socket is made, whose path is taken."""
+        """The socket's path is taken too, but the configuration is judged before the socket is made."""
         config = self.path("no.toml")
         write(self.path("a.sock"), b"mine")
         came = self.refuse(self.path("a.sock"), "--config", config)
@@ -124,15 +124,15 @@ class ScarceTest(SocketTest):
     """Servers with too few descriptors, with too little memory, or without a path for the tables."""
 
     def serve_two(self, limit):
-        """Starts a server of two connections with a limit. Returns the line if the tables cannot be opened.
-        """
+        """Starts a server of two connections with a limit. Returns the server, and its line about tables that
+        cannot be opened."""
         server = self.serve("a.sock", "--connections", "2", preexec_fn=limit)
         return server, "csid: %s: %s\n" % (server.tables, NO_FILE)
 
     @each([(4, False), (5, True)])
     def test_server_without_descriptors_for_its_socket_ends(self, count, is_made):
-        """A server needs standard input, output and error, the socket, and the set of waiting connections. A
-        further descriptor is enough for the file, but not for its WAL."""
+        """With four descriptors no file of tables is made. With five the file is made, but not its WAL and
+        not the socket."""
         server, no_file = self.serve_two(handles(count))
         self.assertEqual(server.end(), (no_file + "csid: %s: %s\n" % (server.path, NO_HANDLE), 7))
         self.assertEqual(os.path.exists(server.tables), is_made)

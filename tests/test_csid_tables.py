@@ -159,7 +159,8 @@ class FirstPageTest(CsidTest):
 
 class OtherFilesTest(CsidTest):
     def probe(self, path, *words):
-        """Returns the output of `csid pipe` over the file at a path."""
+        """Runs `csid pipe` with a Probe over the file at a path. Returns the output, the errors and the
+        status."""
         command = [self.csid, "pipe", "--tables", path, *words]
         return run(command, input=frame(PROBE), cwd=self.folder)
 
@@ -447,7 +448,7 @@ class EmptiedTest(CsidTest):
                 peer.recv(1 << 16)
             server.end()
         self.file, self.log = [self.tables.files()["volumes.db" + ending] for ending in ("", "-wal")]
-        # The header of the WAL, and the first change.
+        # The WAL has its header and its first change in 568 bytes.
         self.assertGreater(len(self.log), 568)
 
     def put(self, file, log):

@@ -28,7 +28,7 @@ def constant(name, labels, value):
 
 
 def firing(pattern, minutes, names):
-    """Checks that after `minutes` exactly these alerts of the pattern fire."""
+    """Returns an expectation of promtool: after `minutes` exactly these alerts of the pattern fire."""
     return {
         "expr": 'count by (alertname) (ALERTS{alertstate="firing", alertname=~"%s"})' % pattern,
         "eval_time": "%dm" % minutes,

@@ -38,7 +38,8 @@ class SessionTest(CsictlTest):
         return lines, commands, "".join(it[2:] + "\n" for it in lines if it.startswith("# "))
 
     def bash(self, *words, typed=""):
-        """Returns the output of bash, with the built programs first on the PATH."""
+        """Runs bash with the built programs first on the PATH. Returns the output, the errors and the status.
+        """
         path = "%s:%s" % (self.folder, os.environ["PATH"])
         done = subprocess.run(["bash", *words], input=typed,
                               env={**os.environ, "PATH": path, "TMPDIR": self.folder}, capture_output=True,

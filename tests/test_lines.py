@@ -32,7 +32,7 @@ def lines_of(path):
 
 
 def without_text(token):
-    """Returns a token of Go unchanged, but only the line ends of a text with several lines."""
+    """Returns a token of Go, but only the line ends of a text with several lines."""
     text = token.group(1) or ""
     return "\n" * text.count("\n") if "\n" in text else token.group()
 

@@ -55,7 +55,7 @@ class PlotsTest(RowTest):
         return old, old.replace("| %s |" % cell, "| %s |" % changed)
 
     def after(self, old, new):
-        """Returns the lines of --check for the page with a replaced text."""
+        """Replaces a text in the page. Returns the status, the output and the lines of --check."""
         self.assertIn(old, self.page)
         pathlib.Path(self.folder, PAGE).write_text(self.page.replace(old, new), encoding="utf-8")
         return self.checked("--check")

@@ -108,7 +108,8 @@ class RecipesTest(RecipeTest):
             self.check("the one that is left", place.call("DeleteVolume", "--volume", "vol-2"), "0 OK\n")
 
     def begin_restore(self, place):
-        """Makes four volumes, the first two attached at n1, a copy, and step 1 of restoring it."""
+        """Makes four volumes, the first two attached at n1, and a copy, and does step 1 of restoring it.
+        Returns the folder of the copy."""
         for name in ["a", "b", "c", "d"]:
             place.call(*create(name))
         for volume in ["vol-1", "vol-2"]:
@@ -284,8 +285,8 @@ class RestoreTest(RecipeTest):
         self.assertEqual(came, ("vol-3\nvol-40\nvol-1\nvol-40 rw n1\n", "", 0))
 
     def make_again(self):
-        """Makes the missing volume again, and attaches it. Returns the output of csictl without the replies.
-        """
+        """Makes the missing volume again, and attaches it. Returns the output without the replies, the errors
+        and the status of both."""
         self.place.recipe("### A restore", 1, copies=self.copies)
         came = [self.place.recipe("### A volume that the copy does not have"),
                 self.place.recipe(ATTACHMENTS, 1, copies=self.copies)]
@@ -426,8 +427,8 @@ class KubernetesChangeTest(RecipeTest):
         self.before = self.place.control.runs("csid")
 
     def changes(self, gibibytes):
-        """Returns the output of the commands after the pool of 10 TiB, with 2 GiB in use, got another size.
-        """
+        """Gives the pool of 10 TiB, with 2 GiB in use, another size, and runs the commands. Returns the
+        output, the errors and the status."""
         text = pathlib.Path(self.manifest).read_text()
         self.assertEqual(text.count("bytes = %d\n" % (10 << 40)), 1)
         with open(self.manifest, "w") as file:
@@ -480,7 +481,8 @@ class KubernetesTest(RecipeTest):
         self.assertEqual(since, "0 OK\nvolume vol-4 1073741824\n")
 
     def restore(self):
-        """Restores the copy, after a further volume was made. Returns the output of the steps."""
+        """Restores the copy, after a further volume was made. Returns the output, the errors and the status
+        of the steps."""
         place = self.place
         begin, end, start = blocks("### A restore of the file in Kubernetes", "DEPLOY.md")
         into = blocks("### In Kubernetes, from etcd to a file", "ETCD.md")[2]
