@@ -36,8 +36,8 @@ def write_limit(path, limit):
 
 @contextlib.contextmanager
 def memory_group(limit):
-    """Makes a control group with a limit. Returns the function that moves a process into it, or skips the
-    test."""
+    """Makes a control group with a limit until the block ends. Yields the function that moves the calling
+    process into it. Skips the test if that is not possible."""
     parent, name = own_group()
     folder = os.path.join(parent, "csid-test-%d" % os.getpid())
     try:

@@ -199,8 +199,8 @@ def read(path):
 
 @contextlib.contextmanager
 def small_disk(folder):
-    """Makes a file system of 1 MiB in memory, in a new folder. If mounting is not possible, the test is
-    skipped."""
+    """Makes a file system of 1 MiB in memory, in a new folder, until the block ends. If mounting is not
+    possible, the test is skipped."""
     disk = os.path.join(folder, "disk")
     os.mkdir(disk)
     try:
