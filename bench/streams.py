@@ -36,7 +36,7 @@ def varint(number):
 
 
 def part(number, payload):
-    """Returns the encoding of a field with this payload."""
+    """Returns the encoding of a field of wire type 2 with this payload."""
     return varint(8 * number + 2) + varint(len(payload)) + payload
 
 

@@ -2,8 +2,8 @@
 sources.
 
 The README.md of a crate of the kit names the Rust crate that it follows, and the licence texts are next to
-it. The version of a Debian package is from dpkg, and its licence from its file `copyright`. If a fact is in
-neither place, it is reported as unknown.
+it. The version of a Debian package is from dpkg, and its licence from its file `copyright`. A licence that is
+in neither place is reported as NOASSERTION.
 """
 import os
 import re

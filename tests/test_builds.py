@@ -188,7 +188,7 @@ class BuildsTest(RowTest):
                     self.check("how it is tried", calls[0].split("|")[:2], ["csid", words])
 
     def test_probe(self):
-        """Without words ./run shows the call and the reply."""
+        """Without arguments ./run shows the call and the reply."""
         pathlib.Path(self.place.path("crates/csid/stdin")).write_bytes(PROBE)
         for reply, wanted in REPLIES:
             self.place.build("#!/bin/sh\ncmp - crates/csid/stdin && printf '%s'\n" % reply)

@@ -116,7 +116,7 @@ class CsidCallsTest(CallTest):
         self.assertEqual(came, (None, Line("csictl: standard output: "), 5))
 
     def test_server_ends_after_its_connections(self):
-        """Then no program listens."""
+        """After the last connection no program listens at the socket."""
         self.server.kill()
         self.server = self.serve("--connections", "2")
         for _ in range(2):
@@ -274,7 +274,8 @@ IN_RUN = 'mount -t tmpfs none /run && mkdir /run/csid && %s && exec %s "$@"'
 
 
 class PlaceTest(CallTest):
-    """Without --socket the environment names the socket, and otherwise it is at the path of the units."""
+    """Without --socket the environment names the socket, and otherwise csictl looks for it at the paths of
+    the units."""
 
     def probe(self, *before, program=None, **variables):
         """Makes a Probe by csictl, which another command may start. Returns the output, the errors and the

@@ -381,5 +381,5 @@ class RemovalTest(AskTest):
                           ("call --method ControllerUnpublishVolume --volume vol-2", "0 OK -\n", "", 0))
 
     def test_volume_that_is_looked_for_by_its_name(self):
-        """`csictl volume` shows the form of ids."""
+        """For a name in place of an id, `csictl volume` shows the form of ids."""
         self.over_volumes(("volume pvc-7", "", "csictl: pvc-7: " + NO_FORM, 1))

@@ -141,7 +141,7 @@ class DeafStore(PlayedStore):
 
 
 class DrippingStore(DeafStore):
-    """A change store that answers the same, and then sends a reply at one byte each half second."""
+    """A change store that answers the same calls, and then sends a reply at one byte each half second."""
 
     def end_silently(self, peer):
         for byte in page(*[volume(it, "v%d" % it) for it in range(1, 20)]):
@@ -363,7 +363,7 @@ class LeadTest(PlayedTest):
         self.assertEqual([*came], [MADE, b""])
 
     def test_store_is_asked_before_each_reply(self):
-        """It is asked once more at the start of a connection."""
+        """The store is asked once more at the start of a connection."""
         server = self.serve(page(meta(2), volume(1, "a")))
         server.log.turns, server.log.leads = [True, True, False], True
         self.assertEqual(server.ask(v.probe(), v.listing(), v.probe()), v.READY)
@@ -381,7 +381,7 @@ class LeadTest(PlayedTest):
 class SlowReaderTest(CsidTest):
     """A client of `csid serve --log` that reads late, so csid waits in the middle of a reply."""
 
-    # They fit on one page.
+    # These volumes fit on one page of ListVolumes.
     VOLUMES = range(1, 101)
     # This many pages of 4,300 bytes are more than the buffer of a socket.
     LISTINGS = 200
@@ -474,7 +474,7 @@ class ShortMemoryTest(CsidTest):
         return peer.recv(1 << 16)
 
     def fill(self, peer):
-        """Creates volumes until csid needs more memory for one. So it has no free memory left."""
+        """Creates volumes until csid needs more memory for one. Then csid has no free memory left."""
         csid = self.server.process.pid
         entries = [v.mutable(*it) for it in self.ENTRIES[:100]]
         taken = status_of(csid, "VmData")

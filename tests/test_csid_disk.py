@@ -57,7 +57,7 @@ class LockTest(DiskTest):
     """Either one csid or one sqlite3 has the file."""
 
     def test_file_of_csid_is_locked(self):
-        """For another csid, and for sqlite3."""
+        """It is locked for another csid and for sqlite3."""
         first = self.begin(self.tables, CREATE, reply(VOLUME_1))
         self.assertEqual(self.tables.run(frame(PROBE)), self.tables.says(LOCKED))
         with contextlib.closing(sqlite3.connect(self.tables.path, timeout=0)) as connection:
@@ -199,7 +199,8 @@ class FullDiskTest(DiskTest):
         self.assertEqual(self.tables.ask("PRAGMA integrity_check"), [("ok",)])
 
     def refuse_on_full_disk(self, tables, first):
-        """The calls of one run: a create, after which the disk is full, and a create that is refused."""
+        """Makes the calls of one run: a create, after which the disk is full, and a create that is refused.
+        """
         process = self.begin(tables, controller("CreateVolume", first), reply(VOLUME_1))
         filler = fill(self.disk)
         # The WAL has 256 KiB of zeros in advance, which is too little for 3,000 file systems.

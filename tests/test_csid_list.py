@@ -43,7 +43,7 @@ SPACES = (volume(1, "'a b'", MIB, "'p 1'", cell(ODD), cell(ODD_MAPS))
           + next_is(2))
 TABLE, ESCAPED, EMPTY = [fixture("listing/%s.txt" % name) for name in ("table", "escaped", "empty")]
 DOCUMENT = json.loads(fixture("listing/document.json"))
-# The place if a listing fails before its first row.
+# The place in the line if a listing fails before its first row.
 FIRST = "from the first volume on"
 
 

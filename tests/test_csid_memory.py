@@ -59,7 +59,7 @@ class LowMemoryTest(CsidTest):
         self.assertEqual(self.tables.ask("SELECT count(*) FROM volumes"), [(999,)])
 
     def test_row_that_there_is_no_memory_to_judge_is_reported(self):
-        """The file can be opened."""
+        """There is memory to open the file, but not for the row."""
         self.tables.new().script(volume(1, caps=LARGE_CAPS) + NEXT_9)
         came = self.tables.run(frame(PROBE), preexec_fn=little_memory)
         self.assertEqual(came, (b"", NO_MEMORY, 6))
@@ -67,7 +67,7 @@ class LowMemoryTest(CsidTest):
 
 class MemoryTest(CsidTest):
     def test_lack_of_memory_for_a_copy_is_no_failed_disk(self):
-        """The copy of the tables has its own files."""
+        """With some of the limits the lack of memory is reported, and with none of them a failed disk."""
         tables = self.tables.new()
         tables.script(volume(1, "printf('%.*c', 200000, 'x')") + next_is(2))
         for option in "--check-tables", "--list-tables":

@@ -137,7 +137,7 @@ class PeersTest(CsidTest):
         self.assertTrue(wait(lambda: SLOW in self.server.lines()))
 
     def test_peer_that_waits_alone_may_send_a_call_slowly(self):
-        """No other one is ready, so a byte now and then is well for ten seconds."""
+        """No other peer is ready, so this peer may send a byte now and then for ten seconds."""
         peer = self.connect()
         call = frame(PROBE)
         for at in range(0, len(call), 4):

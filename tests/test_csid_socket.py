@@ -15,7 +15,7 @@ from tests.support.processes import read, small_memory, write
 from tests.support.rows import CsictlTest, each
 
 
-# The reason if a socket cannot be made.
+# The reasons why a socket cannot be made.
 TAKEN = "a file exists there already"
 TOO_LONG = "path must be shorter than SUN_LEN"
 

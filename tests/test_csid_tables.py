@@ -225,7 +225,7 @@ class OtherFilesTest(CsidTest):
         self.assertEqual(os.listdir(self.folder), ["dangling.db"])
 
     def test_path_that_sqlite_takes_for_no_file_is_refused(self):
-        """The name of a database in memory, and a URI. No file is made."""
+        """The path is the name of a database in memory, or a URI. No file is made."""
         for path in ":memory:", "file:x.db":
             line = "csid: %s: csid needs the path of a file, and this is none for SQLite\n" % path
             for words in (["pipe", "--tables", path], ["pipe", "--tables", path, "--existing"],

@@ -1,5 +1,5 @@
-"""The length of lines: 110 columns, 160 for a definition. In Go 100 columns for a comment and 120 for a line,
-with a tab as 4 columns."""
+"""The greatest length of lines: 110 columns, but 160 for a definition in specs/. In Go 100 columns for a
+comment and 120 for a line, with a tab as 4 columns."""
 
 import glob
 import os

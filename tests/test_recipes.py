@@ -23,7 +23,8 @@ class RecipesTest(RecipeTest):
     """The commands in the recipes of docs/OPERATING.md."""
 
     def test_ways_of_a_copy(self):
-        """The ways to copy a file."""
+        """sqlite3 can copy the file, but not while a connection is served. A copy of the file without its WAL
+        then lacks the last change."""
         backup, vacuum = 'sqlite3 volumes.db ".backup COPY"', "sqlite3 volumes.db \"VACUUM INTO 'COPY'\""
         with Place(self.csictl, self.csid) as place:
             place.call(*create("a"))
@@ -178,7 +179,7 @@ class RecipesTest(RecipeTest):
             self.check("a pool that is taken away", said[1:],
                        ("csid: volumes.db: volume 1: it is vol-1 (a), 1 MiB in pool fast\n"
                         "csid: volumes.db: volume 1: its pool is not one of the configuration\n", 4))
-            # The configuration stays.
+            # The refused configuration is not used.
             self.assertEqual(place.call(*create("a", "x")), "0 OK\nvolume vol-1 1048576\n")
 
     def test_node_that_died(self):
@@ -312,7 +313,8 @@ class RestoreTest(RecipeTest):
 POOL_OF_NONE = "volume 1: its pool is not one of the configuration"
 NODE_OF_NONE = "volume 1 at node n1: its node is not one of the configuration"
 VOL_1 = "volume 1: it is vol-1 (a), 1 MiB in pool p1"
-# For each row: the change, the pools, the nodes, the line that refuses it, and the line before.
+# For each row: the change, the pools, the nodes, the line that refuses the change, and the line before it.
+# Both are None if the change is allowed.
 CHANGES = [
     ("a further pool", {**POOLS, "p3": (1, "c")}, NODES, None, None),
     ("a further node", POOLS, {**NODES, "n3": 1}, None, None),
@@ -377,7 +379,7 @@ class ChangedConfigurationTest(RecipeTest):
 
 class DevicesTest(RecipeTest):
     def test_size(self):
-        """The size of a volume can be read."""
+        """The recipe shows the size of a volume, and that a deleted volume does not exist."""
         with Place(self.csictl, self.csid) as place:
             for number in range(1, 8):
                 place.call("CreateVolume", "--name", "pvc-%d" % number, "--mode", "1")

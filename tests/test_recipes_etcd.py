@@ -66,7 +66,7 @@ MANIFESTS = ["kubernetes.yaml", "kubernetes-etcd.yaml", "kubernetes-tables.yaml"
 class EtcdRecipeTest(RecipeTest):
     """The commands in the recipes of docs/ETCD.md, over an etcd."""
 
-    # More programs for the place.
+    # Further programs for the folder of the recipes.
     programs = {}
 
     def setUp(self):

@@ -1,7 +1,7 @@
 """A call that is repeated after a call of another client (docs/MACHINE.md, "Repeats among other clients"). If
 the other call does not change its object, the repeat has the same reply and changes nothing. For each line of
-the table there is a history whose other call changes the object. The repeat then has another reply, or
-changes something."""
+the table on that page there is a history whose other call changes the object. The repeat then has another
+reply, or changes something."""
 
 import collections
 

@@ -27,7 +27,7 @@ from tests.support.rows import RowTest
 
 SEEDS, STEPS, WALKS, OFTEN, SECONDS = range(1, 5), 2000, 100, 30, 300
 
-# The outcomes that must occur often: each kind of change, and each refusal.
+# The outcomes that must occur often, of requests, and of what happens to csid, its file and its change store.
 EXPECTED = ["created", "created again", "deleted", "nothing to delete", "published",
             "published with a part of its mode", "published again", "unpublished", "nothing to unpublish",
             "confirmed", "not confirmed", "page", "last page", "capacity", "no capacity",

@@ -124,8 +124,8 @@ class System:
 
     @contextlib.contextmanager
     def started(self, unit, socket):
-        """Runs the command of a unit, and waits for its socket. An old socket is removed first, as systemd
-        does."""
+        """Runs the command of a unit until the block ends, and first waits for its socket. An old socket is
+        removed before, as systemd does."""
         if os.path.exists(self.path(socket)):
             os.unlink(self.path(socket))
         words, variables = self.command(unit)

@@ -13,8 +13,8 @@ import time
 
 # The seconds to wait for an event. A scheduler tries a pod that found no room again after 60 to 90 seconds.
 SECONDS = 120
-# Before the first version, storage capacity must be enabled. Before the second version, a second port without
-# authentication must be disabled.
+# Before the first of these versions of Kubernetes, storage capacity must be enabled. Before the second, a
+# port without authentication must be disabled.
 CAPACITY, ONE_PORT = (1, 21), (1, 23)
 # The controllers, without those that judge a node by the reports of a kubelet.
 CONTROLLERS = """
@@ -196,6 +196,6 @@ class Cluster:
         return json.loads(self.kubectl("get", "-o", "json", text=text)[1])["items"]
 
     def try_create(self, document, validate):
-        """Returns the answer of kubectl to the creation of an object in a dry run."""
+        """Creates an object in a dry run by kubectl. Returns its status, output and errors."""
         words = ["create", "--dry-run=server", "--validate=" + validate]
         return self.kubectl(*words, text=json.dumps(document))

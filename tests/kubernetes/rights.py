@@ -30,7 +30,7 @@ def rules(cluster, user, namespace):
 
 
 def can(cluster, group, resource, verb, namespace):
-    """Returns kubectl's answer, yes or no."""
+    """Returns kubectl's answer if the account has a right: yes or no."""
     name, _, part = resource.partition("/")
     kind = name + ("." + group if group else "")
     subresource = ["--subresource=" + part] if part else []

@@ -9,7 +9,7 @@ MIB = 1 << 20
 
 
 class Breaker:
-    """Breaks correct frames and messages."""
+    """Breaks correct frames and messages at random. `corpus` has correct calls: their paths and messages."""
 
     def __init__(self, source, corpus):
         self.source, self.corpus = source, corpus
@@ -47,8 +47,8 @@ class Breaker:
                 + text[to:])
 
     def nested(self, message):
-        """Returns the message inside an embedded message, that inside a further one, and so on: up to 200,000
-        levels or 1 MiB."""
+        """Returns the message inside an embedded message, this one inside a further one, and so on: up to
+        200,000 levels or 1 MiB."""
         number, heads, length = self.source.randrange(1, 10), [], len(message)
         for _ in range(self.one_of(2, 10, 100, 1000, self.source.choice((5000, 5000, 5000, 200000)))):
             heads.append(v.tag(number, 2) + v.varint(length))

@@ -165,7 +165,7 @@ class Caller:
         self.operations.append(Operation(self.number, what, act, begun, ended, reply))
         return reply
 
-    # ---- the calls
+    # Each of these methods makes a call, and returns its reply or None.
 
     def creates(self, name, mutable):
         call = v.create(v.name(name), capabilities(KEYS), entries(v.mutable, mutable))
@@ -225,7 +225,7 @@ def reads(caller):
 
 
 def clears(caller):
-    """Deletes all volumes, and creates one more, so that the next number is known."""
+    """Deletes all volumes, and then creates and deletes one more, so that the next number is known."""
     for text in sorted(set(re.findall(rb"vol-\d+", caller.lists()))):
         caller.unpublishes(text.decode(), "")
         caller.deletes(text.decode())

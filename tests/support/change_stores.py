@@ -93,7 +93,7 @@ def page(*rows, token=b""):
 
 
 def fields(message):
-    """Returns the fields of a message of csid, each as its number and its value."""
+    """Returns the fields of a message, each as its number and its value. A value is a number or bytes."""
     found, at = [], 0
 
     def varint():
@@ -125,7 +125,8 @@ class KeptChangeStore(ChangeStore):
         super().__init__(path)
 
     def rows(self):
-        """Returns the rows of volumes, of attachments and of meta, in order (docs/TABLES.md)."""
+        """Returns the rows of volumes, of attachments and of meta (docs/TABLES.md), sorted by number and
+        node."""
         return ([(number, *it) for number, it in sorted(self.volumes.items())],
                 [(*place, *it) for place, it in sorted(self.attachments.items())], [(1, 2, self.next)])
 

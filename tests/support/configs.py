@@ -24,7 +24,7 @@ NODES = SAMPLE[SAMPLE.index(b"[[node]]") :]
 SEGMENTS = b'segments = { zone = "a" }'
 
 
-# More pools and nodes, after those of the sample.
+# These make further pools and nodes for the sample.
 def pools(count):
     return b"".join(b'[[pool]]\nname = "q%d"\nbytes = 1048576\n' % number for number in range(count))
 

@@ -79,7 +79,7 @@ class Server(Served):
         self.path, self.tables = path, path + ".db" if tables is None else tables
         command = [csid, "serve", "--socket", path, "--tables", self.tables, *words]
         self.begin(["sh", "-c", 'exec "$0" "$@" ' + shell, *command] if shell else command, **how)
-        # Its first line has the contents of the file, or why csid cannot read it.
+        # The first line of csid has the contents of the file, or why csid cannot read it.
         begun = "(?m)^csid: (%s: volumes .*|out of memory|.*%s)\n" % (re.escape(self.tables), NO_FILE)
         wait(lambda: (os.path.exists(path) if shell else re.search(begun, self.lines()))
              or self.process.poll() is not None)
@@ -100,11 +100,11 @@ class Server(Served):
 
 NOT_THERE = "No such file or directory (os error 2)"
 
-# The reason if a file of tables cannot be opened (docs/TABLES.md).
+# The reasons why a file of tables cannot be used (docs/TABLES.md).
 NO_FILE = "unable to open database file"
 NO_DATABASE = "file is not a database that obeys its schema"
 
 
-# An entry of 'vol-N' of 1 MiB without attachments, in bytes and in JSON.
+# An entry of 'vol-N' of 1 MiB without attachments, in hexadecimal.
 def entry(number):
     return "0a28" + VOL_1.replace("766f6c2d31", "766f6c2d3%d" % number) + "1200"

@@ -212,7 +212,7 @@ class Model:
 
 
 class Requests:
-    """Random requests, each with a call and the model's answer."""
+    """Random requests. A request is a call, the model's reply, and a description of what happened."""
 
     def __init__(self, seed, model):
         self.random, self.model = random.Random(seed), model
@@ -241,8 +241,8 @@ class Requests:
         return {} if self.one_of(*range(6)) else {"k": self.one_of("1", "2")}
 
     def mutable(self):
-        """Returns mutable parameters: few keys, mostly with short values. Two of the long values are too long
-        for one volume."""
+        """Returns mutable parameters: few keys, with short or long values. Two long values are too long for
+        one volume."""
         value = self.one_of("1", "1", "2", *["x" * (MAP_BYTES // 2)] * 3)
         return self.one_of({}, {"i": value}, {"j": value}, {"i": "1", "j": value})
 

@@ -90,8 +90,8 @@ def with_shell(csid, redirection, given):
     return run(["sh", "-c", 'exec "$0" ' + redirection, csid], input=given)
 
 
-# Enough memory for csid over the file below, but not for a copy of the file: 1,000 volumes with parameters of
-# 4,096 bytes in 1,024 entries.
+# Enough memory for csid over a file of 1,000 volumes with parameters of 4,096 bytes in 1,024 entries, but not
+# for a copy of this file.
 def some_memory():
     resource.setrlimit(resource.RLIMIT_DATA, (48 << 20, 48 << 20))
 
@@ -110,7 +110,7 @@ def memory_of(size):
 
 
 def statuses(peer, count):
-    """Returns the statuses of the next `count` replies on a connection, or fewer if it ends."""
+    """Returns the statuses of the next `count` replies on a connection, or fewer if the connection ends."""
     held, came = b"", []
     while len(came) < count:
         piece = peer.recv(1 << 16)

@@ -247,7 +247,8 @@ def exchange(peer, pieces, seconds=SECONDS):
 
 
 def asked(path, *calls, seconds=SECONDS):
-    """Makes calls on a new connection. Returns the replies, or None if they do not come."""
+    """Makes calls on a new connection. Returns the replies, or None if no connection can be made, the
+    connection does not end, or the replies are malformed."""
     peer = connected(path, seconds)
     if peer is None:
         return None

@@ -404,7 +404,7 @@ def publish(volume, node):
 
 
 def has(volumes, attachments, number, format=2):
-    """Returns the line of a check of the file."""
+    """Returns the line that a check prints for a file with these counts."""
     return "volumes %d, attachments %d, next number %d, format %d\n" % (volumes, attachments, number, format)
 
 

@@ -82,13 +82,13 @@ class Server(Served):
         self.tables = tables or os.path.join(folder, "volumes.db")
         words = [csid, "serve", "--socket", self.path, "--tables", self.tables, *words]
         self.begin(words, stdout=subprocess.DEVNULL, **how)
-        # Before it takes the first connection it reports what the tables have, or why they are unusable.
+        # Before csid takes the first connection, it reports what the tables have, or why they are unusable.
         told = re.compile("(?m)^csid: %s: (?!%s).*\n" % (re.escape(self.tables), NEW))
         if not wait(lambda: told.search(self.lines()) or self.process.poll() is not None):
             raise ValueError("csid serve does not begin")
 
     def answers(self, calls):
-        """Makes calls over one connection while it reads replies. Returns their statuses."""
+        """Makes calls over one connection, and reads the replies at the same time. Returns their statuses."""
         with self.connect() as peer:
             threading.Thread(target=lambda: [peer.sendall(it) for it in calls], daemon=True).start()
             return statuses(peer, len(calls))

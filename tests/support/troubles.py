@@ -294,8 +294,8 @@ class Stack:
 
     def keeps_no_longer(self, source):
         """Kills or stops csid-etcd. The key of its lock is gone after its lease, and a continued csid-etcd
-        does not say that it leads. An etcd that starts again counts each lease from the start, so the test
-        comes after that."""
+        does not say that it leads. Waits first until etcd runs for longer than a lease, since an etcd that
+        starts again counts each lease from its start."""
         self.run.seen["the lock is lost"] += 1
         time.sleep(max(0, self.etcd.begun + LEASE + 2 - time.monotonic()))
         self.keeper.process.send_signal(source.choice((signal.SIGSTOP, signal.SIGSTOP, signal.SIGKILL)))
