@@ -74,7 +74,7 @@ class CallTest(CsictlTest):
 
 
 class CsidCallsTest(CallTest):
-    """Calls of csid."""
+    """csictl calls csid at a socket."""
 
     def setUp(self):
         super().setUp()

@@ -30,8 +30,8 @@ def pairs(number, of):
 
 
 def entry(name, size, topologies=(), nodes=(), **context):
-    """Returns an entry of ListVolumes in hexadecimal (docs/PROTOCOL.md, "Messages"). A topology is a list of
-    pairs."""
+    """Returns an entry of ListVolumes in hexadecimal (docs/PROTOCOL.md, "Messages"). A topology is a
+    dictionary of segments."""
     volume = b"\x08" + varint(size % (1 << 64)) + part(2, name.encode()) + pairs(3, context)
     volume += b"".join(part(5, pairs(1, segments)) for segments in topologies)
     return part(1, part(1, volume) + part(2, b"".join(part(1, it.encode()) for it in nodes))).hex()

@@ -146,8 +146,8 @@ class StoredTest(CsidTest):
 
 class ModesTest(StoredTest):
     """A file of a csid without the modes 6 and 7: its volumes with mode 1 can be published with them.
-    tests/stored/modes-1-to-5.db has volumes of 1 MiB in p1, and two attached ones: 'readers' with mode 3 and
-    'attached' with mode 1."""
+    tests/stored/modes-1-to-5.db has volumes of 1 MiB in p1. Two of them are attached: 'readers' with mode 3
+    and 'attached' with mode 1."""
 
     CAPS = [
         ("block", BLOCK_MODE % 1),

@@ -1,4 +1,4 @@
-"""`csid --check-config` and `csid --check-tables`."""
+"""`csid --check-config` and `csid --check-tables`: what they print, and that they change nothing."""
 
 import contextlib
 import os

@@ -15,7 +15,7 @@ HEADER = 32
 
 
 class Moment:
-    """The bytes of a file, of its WAL, and the tables in them, at one moment."""
+    """The bytes of a file and of its WAL at one moment, and the number of volumes in them."""
 
     def __init__(self, path, volumes):
         self.database = pathlib.Path(path).read_bytes()

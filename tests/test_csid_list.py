@@ -1,4 +1,4 @@
-"""`csid --list-tables`."""
+"""`csid --list-tables`: its columns, its JSON, and tables that it refuses."""
 
 import itertools
 import json

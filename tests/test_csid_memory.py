@@ -1,4 +1,4 @@
-"""csid with little memory."""
+"""csid with little memory: --low-memory, and calls that are refused so that the next opening has memory."""
 
 
 from tests.vectors import messages as v

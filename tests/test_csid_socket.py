@@ -55,7 +55,7 @@ PROBED = "0 OK 0a020801\nready true\n", "", 0
 
 
 class SocketTest(CsictlTest):
-    """csid at a socket."""
+    """A test that runs csid at sockets in its folder."""
 
     def path(self, name):
         return os.path.join(self.folder, name)

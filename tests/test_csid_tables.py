@@ -142,7 +142,7 @@ class FirstPageTest(CsidTest):
         self.check_made()
 
     def test_one_of_many_that_start_at_once_makes_the_file(self):
-        """The others report that it is in use."""
+        """Each of the others serves this file, too, or reports that it is locked."""
         streams = dict.fromkeys(("stdin", "stdout", "stderr"), subprocess.PIPE)
         made = READY, "", 0
         for _ in range(5):

@@ -58,7 +58,7 @@ class SessionTest(CsictlTest):
 
 
 class BytesTest(SessionTest):
-    """The session with bytes."""
+    """The section "The session in bytes" of README.md."""
 
     def setUp(self):
         super().setUp()
@@ -72,7 +72,8 @@ class BytesTest(SessionTest):
 
 
 class ExampleTest(SessionTest):
-    """The session with the commands for people, which examples/session has too."""
+    """The section "A session" of README.md, with the commands for people. examples/session has the same
+    commands."""
 
     def setUp(self):
         super().setUp()

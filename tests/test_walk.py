@@ -153,7 +153,7 @@ def rows_in(path):
 
 
 class Walk:
-    """One walk, and its findings."""
+    """One walk: random requests to csid and to a model, and the replies or rows that differ."""
 
     def __init__(self, csid, seed, server):
         self.model, self.server = Model(), server

@@ -47,7 +47,7 @@ def by_kind(text):
 
 
 def pod_alone(whole):
-    """Returns the pod of a StatefulSet alone, with its claims as volumes."""
+    """Returns a PodTemplate with the pod of a StatefulSet, and with its claims as volumes."""
     template = copy.deepcopy(whole["spec"]["template"])
     claims = [claim["metadata"]["name"] for claim in whole["spec"]["volumeClaimTemplates"]]
     template["spec"]["volumes"] += [{"name": name, "persistentVolumeClaim": {"claimName": name}}

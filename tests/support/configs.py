@@ -1,4 +1,4 @@
-"""Configurations of csid."""
+"""Configurations of csid: the sample, its parts and changes, and configurations that are refused."""
 
 from tests.support.data import tables
 from tests.support.processes import fixture

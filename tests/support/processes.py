@@ -1,4 +1,4 @@
-"""Runs programs, and makes their files."""
+"""Runs programs for the tests: with limits, as another user, or on a small disk."""
 
 import contextlib
 import os

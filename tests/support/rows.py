@@ -73,7 +73,7 @@ class RowTest(unittest.TestCase):
         self.addCleanup(signal.alarm, 0)
 
     def check(self, name, got, want):
-        """Compares a result with the expected result."""
+        """Fails the subtest `name` if `got` and `want` differ."""
         with self.subTest(name=name):
             if got != want:
                 self.fail("got:  %s\nwant: %s" % (shown(got), shown(want)))

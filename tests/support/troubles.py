@@ -172,7 +172,7 @@ def one_call(run, record, source, client, waits):
 
 
 def makes(run, record, disk, waits):
-    """Makes each call in doubt again, until it is OK."""
+    """Makes each call in doubt again until it is OK, for at most two seconds each."""
     for call in waits:
 
         def again():
