@@ -144,7 +144,7 @@ def mix(standing, rounds, with_capacity=True):
 
 
 def asked(calls):
-    """Returns the stream of calls as bytes."""
+    """Returns the frames of the calls, without their replies, as one stream."""
     return b"".join(frame for frame, _ in calls)
 
 

@@ -113,7 +113,8 @@ def words_of(text):
 
 
 class Edit:
-    """A wrong body: for each file, the old texts and the new texts."""
+    """A wrong body: the files that it changes, each with an old text and a new text, and the reason why it is
+    kept, or ''."""
 
     def __init__(self, crate, name, lines, is_in_gate=False):
         self.crate, self.name, self.is_in_gate = crate, name, is_in_gate

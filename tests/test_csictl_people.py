@@ -167,7 +167,7 @@ ROWS = tables("csictl_people", globals())
 
 
 class SlowPages(Pages):
-    """A server that needs a while for each page."""
+    """A server that needs 1.6 seconds for each page."""
 
     def play(self, peer, part):
         with peer, peer.makefile("rb") as calls:
@@ -355,7 +355,8 @@ class RemovalTest(AskTest):
         self.removed(name, "delete vol-1 --tries 2", connections, "deleted vol-1\n", said, 0)
 
     def over_volumes(self, *rows):
-        """Rows over csid with two volumes, the first published to n1. The third was deleted."""
+        """Compares rows over a csid with two volumes, the first published to n1. A third volume was deleted.
+        """
         server = Server(self.csid, os.path.join(self.folder, "p.sock"))
         for name in ["pvc-7", "pvc-8", "pvc-9"]:
             self.ask(server.path, "create %s --size 1Mi --pool-topology zone=a" % name)

@@ -193,7 +193,7 @@ class ModesTest(StoredTest):
 
 
 def part(number, content):
-    """Returns a field of less than 128 bytes."""
+    """Returns a field of wire type 2 with less than 128 bytes."""
     return bytes([number * 8 + 2, len(content)]) + content
 
 

@@ -91,7 +91,7 @@ class Server(Served):
         return super().lines().replace(self.log_path, "LOG")
 
     def end(self):
-        """Ends csid and the change store. Returns what csid wrote."""
+        """Ends csid and the change store. Returns the lines of csid."""
         if os.path.exists(self.log_path):
             self.process.kill()
             self.process.wait()
@@ -485,7 +485,8 @@ class ShortMemoryTest(CsidTest):
         self.fail("memory is free")
 
     def modify(self):
-        """Changes the mutable parameters of the first volume, then lists volumes. Returns both replies."""
+        """Changes the mutable parameters of the first volume, while csid has no memory for the change, and
+        then lists volumes. Returns both replies."""
         csid = self.server.process.pid
         with self.server.connect() as peer:
             self.fill(peer)

@@ -452,7 +452,7 @@ class EmptiedTest(CsidTest):
         self.assertGreater(len(self.log), 568)
 
     def put(self, file, log):
-        """Writes the file and its WAL. None means no file."""
+        """Writes the file and its WAL, or leaves one out if it is None. Returns the bytes of both by name."""
         self.tables.clear()
         for ending, content in ("", file), ("-wal", log):
             if content is not None:

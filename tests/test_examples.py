@@ -47,7 +47,8 @@ class SessionTest(CsictlTest):
         return done.stdout, done.stderr, done.returncode
 
     def shown(self, blocks):
-        """Returns the output of bash for the commands in blocks, each after its command."""
+        """Returns what bash shows for the commands in blocks: each command after '$ ', and then its output.
+        """
         script = ["exec 2>&1", "cd " + self.folder]
         for line in "\n".join(blocks).splitlines():
             if line.startswith("$ "):
@@ -108,7 +109,7 @@ class ExampleTest(SessionTest):
 
 
 def session_blocks(heading, *path):
-    """Returns the blocks of a section whose first line is a command after '$ '."""
+    """Returns the blocks of code in a section that begin with '$ ' and a command."""
     text = re.split(r"\n#+ ", read(*path).split("\n%s\n" % heading)[1])[0]
     blocks = re.findall(r"(?:^ {4}.*\n|^\n(?= {4}))+", text, re.M)
     blocks = [re.sub(r"^ {4}", "", it, flags=re.M).strip("\n") for it in blocks]

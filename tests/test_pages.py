@@ -69,7 +69,7 @@ class CheckPagesTest(ScriptTest):
         self.check("other lines", said, {})
 
     def test_dead_links_and_names(self):
-        """Each link and name is reported that leads nowhere."""
+        """Each link and each name that leads nowhere is reported."""
         sums = "../crates/low/src/sums.rt"
         self.write("docs/OTHER.md", "# Other\n\n## A part\n")
         self.write("tests/test_sums.py", "class LowTest:\n    def test_sum(self):\n        test_low()\n")

@@ -140,7 +140,7 @@ class RecipesTest(RecipeTest):
                 self.check("attached", file.read(), "vol-1 rw n2\nvol-2 ro n1\nvol-2 ro n2\n")
 
     def shows(self, name, came, wanted):
-        """Compares csictl's output for replies, without the first line of each."""
+        """Compares csictl's output, but for its lines that begin with `0 OK`. There must be no errors."""
         out, errors, status = came
         shown = [line for line in out.split("\n") if line and not line.startswith("0 OK")]
         self.check(name, (shown, errors, status), (wanted, "", 0))
@@ -276,7 +276,7 @@ class RestoreTest(RecipeTest):
         self.place.orchestrator("vol-40\nvol-2\nvol-3\n", "vol-40 rw n1\n")
 
     def test_rows_of_the_copy_are_back(self):
-        """The old files are moved away."""
+        """The files before the restore are moved next to the copy."""
         self.assertEqual((self.place.owners(), self.place.modes()), ({OWNER}, {"0o600"}))
         self.assertEqual(self.place.rows(), ({1: "a", 2: "b"}, 3))
         self.assertEqual(self.place.rows(self.copies + "/old/volumes.db"), ({2: "b", 3: "c"}, 4))

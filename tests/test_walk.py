@@ -199,7 +199,8 @@ class Walk:
         return True
 
     def makes_older(self):
-        """Changes the file to format 1, which has no mutable parameters."""
+        """Changes the file to format 1, which has no mutable parameters, and takes these from the model's
+        volumes, too."""
         connection = sqlite3.connect(self.server.tables)
         with connection:
             for it in self.model.volumes:

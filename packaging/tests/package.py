@@ -153,8 +153,8 @@ def ended(process):
 
 
 def content_rows(programs, package):
-    """The paths and modes of the files. For licences, which depend on the parts of the programs, only the
-    modes."""
+    """Compares the paths and modes of the files. For licences, which depend on the parts of the programs,
+    compares only the modes."""
     held = [re.sub(r" +\d+ \d{4}-\d\d-\d\d \d\d:\d\d ", " ", it)
             for it in run("dpkg-deb", "--contents", package)[1].splitlines()]
     listed = [it for it in held if LICENCES not in it]

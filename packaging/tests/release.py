@@ -83,7 +83,7 @@ def files_of(programs):
 
 
 def archive_rows(path, name, programs):
-    """The files of the tar.gz. Their owner, date and order do not reveal who made it."""
+    """The tar.gz has the files of a release. Their owners, dates and order do not show who made it."""
     date = int(output("git", "-C", TOP, "log", "-1", "--format=%ct"))
     with tarfile.open(path) as archive:
         members = archive.getmembers()
@@ -122,7 +122,8 @@ def licence_rows(folder, name):
 
 
 def list_rows(path, programs):
-    """The parts list: its programs, some parts whose versions are known from elsewhere, and its relations."""
+    """Compares the parts list: its programs, some parts whose versions rt or dpkg also knows, and its
+    relations."""
     with open(path, encoding="utf-8") as file:
         made = json.load(file)
     packages = {it["name"]: it for it in made["packages"]}

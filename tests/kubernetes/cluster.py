@@ -54,7 +54,7 @@ def need_pods(cluster):
 
 
 class Cluster:
-    """The servers, and the requests of the administrator and of other users."""
+    """The servers of a cluster, and requests to them from the administrator or another user."""
 
     def __init__(self, folder, programs):
         self.folder, self.programs, self.processes = folder, programs, []

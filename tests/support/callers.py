@@ -165,7 +165,7 @@ class Caller:
         self.operations.append(Operation(self.number, what, act, begun, ended, reply))
         return reply
 
-    # Each of these methods makes a call, and returns its reply or None.
+    # Each of the next methods makes one call, and returns its reply or None.
 
     def creates(self, name, mutable):
         call = v.create(v.name(name), capabilities(KEYS), entries(v.mutable, mutable))
@@ -208,7 +208,7 @@ def works_on(caller, text, name):
 
 
 def works_alone(caller, name):
-    """A client with a volume of its own: it creates the volume, and makes random calls for it."""
+    """Creates a volume that no other client uses, and makes three random calls for it."""
     text = id_in(caller.creates(name, {}))
     for _ in range(3):
         works_on(caller, text, name)

@@ -158,7 +158,7 @@ class KeptChangeStore(ChangeStore):
         return page(*first, *rows[told:then], token=b"%d" % then if then < len(rows) else b"")
 
     def make(self, number, values):
-        """Makes a change, and returns True, if the rows meet its condition."""
+        """Makes a change if the rows meet its condition. Returns True if the change was made."""
         at = values[0]
         if number == 1:
             name, size, pool, caps, params = values[1:]

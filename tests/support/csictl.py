@@ -15,7 +15,8 @@ VERSION = pathlib.Path(TOP, "VERSION").read_text(encoding="utf-8").strip()
 
 
 class Line:
-    """Equals a text of one line that begins with `begin`, and has each of these parts after it."""
+    """Equals a text of one line that begins with `begin`, goes on after it, and there has each of these
+    parts."""
 
     def __init__(self, begin, *parts):
         self.begin, self.parts = begin, parts
@@ -31,7 +32,7 @@ class Line:
 
 
 class Shown:
-    """Equals a text with a line end that has each of these parts."""
+    """Equals a text that ends with a line end and has each of these parts."""
 
     def __init__(self, *parts):
         self.parts = parts
@@ -67,7 +68,7 @@ def run(words, stdout=subprocess.PIPE, **how):
 
 
 def text(came):
-    """Returns the same result with standard output as a text."""
+    """Returns a result of `run` with standard output as a text."""
     return came[0].decode(), came[1], came[2]
 
 

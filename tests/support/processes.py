@@ -50,7 +50,7 @@ def fixture(name):
 
 
 class Shown:
-    """Equals a text with a line end that has each of these parts."""
+    """Equals bytes that end with a line end and have each of these parts."""
 
     def __init__(self, *parts):
         self.parts = parts

@@ -99,7 +99,8 @@ class Program:
             os.unlink(self.socket)
         if self.clocks:
             self.clocks()
-        # With a function before the start Python forks, so that the program is in the namespace of clocks.
+        # If a function is to run before the program, Python forks. Only then is the program in the new
+        # namespace of clocks.
         forked = {"preexec_fn": lambda: None} if self.clocks else {}
         self.process = subprocess.Popen(self.words, stdin=subprocess.DEVNULL, stdout=subprocess.DEVNULL,
                                         stderr=self.said, **forked, **self.how)

@@ -367,7 +367,7 @@ class Place:
         return self.in_folder("csid --check-tables volumes.db --config $config")
 
     def call(self, *words):
-        """Makes a call by csictl. Returns its output without the bytes."""
+        """Makes a call by csictl. Returns its output without the bytes of the reply."""
         out = self.shell("csictl call --socket /run/csid/csid.sock --method " + " ".join(words))[0]
         return re.sub(r"^0 OK \S+", "0 OK", out)
 

@@ -29,8 +29,8 @@ def fail_late(*_):
 
 
 def each(rows):
-    """Makes a test of each row. The method with the columns as parameters becomes methods whose names end in
-    the first column."""
+    """Returns a decorator that makes a test of each row. The columns are the parameters of the method, and
+    the name of the test ends in the first column."""
 
     def mark(method):
         method.rows = [row if isinstance(row, tuple) else (row,) for row in rows]

@@ -111,7 +111,7 @@ def place(name):
 
 
 class Runner(unittest.TextTestRunner):
-    """Runs the classes of a suite side by side, and prints a line when one has ended."""
+    """Runs the classes of a suite side by side, and prints a line when a class has ended."""
 
     def run(self, suite):
         classes = by_class(suite, collections.defaultdict(list))

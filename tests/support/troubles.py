@@ -155,7 +155,7 @@ class Disk:
 
 
 def one_call(run, record, source, client, waits):
-    """Makes a call. Adds it to `waits` unless it is answered with OK."""
+    """Makes a random create or delete. Adds it to `waits` unless it is answered with OK."""
     of = source.choice(sorted(set(record.standing) - {it for _, it in waits}) or [""])
     call = (("remove", of)
             if of

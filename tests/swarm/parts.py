@@ -111,7 +111,7 @@ def form_checks(swarm):
         row = swarm.rows()[name]
         found = [(each["access"], each["mode"]) for each in row["capabilities"]], row["parameters"]
         yield "%s, with an option" % name, lambda: found, ([form[2:]], {"tier": "fast"})
-    # Only --force removes a volume from Swarm's list that was never created.
+    # Only with --force Swarm removes a volume that was never created.
     swarm.remove("--force", *("-".join(form[:3]) for form in UNSUPPORTED))
     swarm.remove(*names)
     yield "all are removed", swarm.both, ({}, {})
