@@ -172,8 +172,8 @@ def read(path):
 
 
 def edits_in(crate):
-    """Returns the edits of a crate: the edits that the gate tries, and the others. Raises ValueError if two
-    edits have the same name, or if a line has no known form."""
+    """Returns the edits of a crate: first the edits that the gate tries, then the edits of tests/edits.
+    Raises ValueError if two edits have the same name, or if a line has no known form."""
     folder, path = f"crates/{crate}/must-fail", f"tests/edits/{crate}.edits"
     names = [it for it in sorted(os.listdir(folder)) if it.endswith(".edit")] if os.path.isdir(folder) else []
     found = [Edit(crate, it.removesuffix(".edit"), read(f"{folder}/{it}").split("\n"), True) for it in names]

@@ -163,8 +163,8 @@ class SpoiledConnectionTest(CallTest):
         self.check_served("a read of a connection failed")
 
     def test_next_peer_waits_while_one_reads_no_reply(self):
-        """A peer sends calls until csid can write no more replies. The next peer is answered when the first
-        one has gone."""
+        """A peer sends calls until csid can write no more replies. The next peer is answered after this peer
+        has gone."""
         with self.server.connect() as peer:
             peer.settimeout(0.5)
             with contextlib.suppress(TimeoutError):

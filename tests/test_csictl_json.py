@@ -78,8 +78,8 @@ class WalkTest(CsictlTest):
         self.assertEqual(came, (out, error, status))
         self.assertEqual(asked, asked_of(connections))
 
-    # With the six bytes before it the first token makes a message of 1,048,576 bytes, the most that a frame
-    # holds. The second one is a byte longer.
+    # In the first test, the token and the six bytes before it are a message of 1,048,576 bytes, the most that
+    # a frame holds. In the second test the token is a byte longer.
 
     def test_longest_token_is_sent(self):
         token = "12faff3f" + "61" * 1048570

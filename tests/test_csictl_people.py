@@ -236,7 +236,7 @@ class PeopleTest(AskTest):
         self.compare("%d bytes" % size, "pools", pages, asked, out, "", 0)
 
     def test_each_page_has_the_time_of_the_option(self):
-        """This also holds over a connection that is kept."""
+        """Both pages come over one connection. Together they take longer than the option says."""
         pages = SlowPages(self.folder, [[ok(THREE[0] + NEXT), ok(THREE[1] + THREE[2])]])
         self.check("two slow pages", self.ask(pages.path, "volumes --timeout 3"), (VOLUMES, "", 0))
         self.check("what was asked", len(pages.end()[0]), 2)

@@ -15,8 +15,8 @@ from tests.support.tables import (A, BESIDE, BLOCK_CAPS, BYTES, CAP, CAPS, FIRST
 from tests.vectors.rows import Plain
 
 
-# All rules are broken at once, and fixed in order. For each rule: how to break it, how to fix it, and the
-# line before it is fixed.
+# All rules are broken at once, and then fixed in this order. For each rule: how to break it, how to fix it,
+# and the line before it is fixed.
 GOOD = volume(1) + volume(2, "'b'") + volume(3, "'c'")
 TURNS = [
     (volume(10, "'k'", caps="'caps'"), "DELETE FROM volumes WHERE number = 10", volume_fault(10, KIND)),
@@ -80,7 +80,7 @@ class AdoptionTest(CsidTest):
             self.assertEqual(self.tables.run(frame(PROBE)), self.tables.says(line))
 
     def test_first_rule_that_is_broken_is_reported(self):
-        """The rows break all rules. They are fixed in order."""
+        """The rows break all rules. The rules are then fixed, one after another."""
         rows = "SELECT * FROM volumes", "SELECT rowid, * FROM attachments"
         self.tables.new().script(GOOD + next_is(50) + "".join(spoil for spoil, _, _ in TURNS))
         before = list(map(self.tables.ask, rows))
@@ -132,7 +132,8 @@ BLOCK_MODE, EXT4_MODE = "1a060a001a0208%02x", "1a0c12060a04657874341a0208%02x"
 
 
 class StoredTest(CsidTest):
-    """Files of earlier releases are adopted. They then have format 2, and no row of a volume changes."""
+    """Files of earlier releases are adopted. After that a file has format 2, and no row of a volume has
+    changed."""
 
     def open_stored(self, name):
         self.tables = Tables(self.csid, self.folder, name)

@@ -383,7 +383,7 @@ class SlowReaderTest(CsidTest):
 
     # These volumes fit on one page of ListVolumes.
     VOLUMES = range(1, 101)
-    # This many pages of 4,300 bytes are more than the buffer of a socket.
+    # These pages have 4,300 bytes each. All together do not fit into the buffer of a socket.
     LISTINGS = 200
 
     def setUp(self):
@@ -452,7 +452,7 @@ def limit_memory(csid, size):
 class ShortMemoryTest(CsidTest):
     """The change store makes a change, and `csid serve --log` has no memory for it."""
 
-    # The greatest number of entries in a map. In memory they take about 90 KiB.
+    # A map with the greatest number of entries. In memory it takes about 90 KiB.
     ENTRIES = [("%03x" % it, "v") for it in range(1024)]
 
     def setUp(self):

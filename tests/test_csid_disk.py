@@ -35,7 +35,8 @@ class DiskTest(CsidTest):
     """csid over tables in the folder of the test."""
 
     def begin(self, tables, call, answer):
-        """Starts csid, and makes one call. csid then waits for another one."""
+        """Starts csid, makes a call and checks its reply. Returns the process, which waits for further calls.
+        """
         streams = dict.fromkeys(("stdin", "stdout", "stderr"), subprocess.PIPE)
         process = subprocess.Popen(tables.command, bufsize=0, **streams)
         process.stdin.write(call)
@@ -54,7 +55,7 @@ class DiskTest(CsidTest):
 
 
 class LockTest(DiskTest):
-    """Either one csid or one sqlite3 has the file."""
+    """Only one csid or one sqlite3 at a time has the file."""
 
     def test_file_of_csid_is_locked(self):
         """It is locked for another csid and for sqlite3."""
@@ -215,8 +216,8 @@ class FullDiskTest(DiskTest):
 
     @each([("small", CREATE_A, [b"vol-1"]), ("large", CREATE_A + mounts(100), [])])
     def test_both_files_have_what_was_committed_after_a_refusal(self, name, first, alone):
-        """The file alone has it, unless the disk has no room for the pages that it lacks. Then it may have
-        some of the pages, and is refused."""
+        """The file without its WAL also has it, unless the disk has no room for the pages that the file
+        lacks. Then the file may have some of the pages, and is refused."""
         tables = Tables(self.csid, self.disk, name + ".db").new()
         self.refuse_on_full_disk(tables, first)
         for kind, ends, wanted in [("both", ["", "-wal"], [b"vol-1"]), ("alone", [""], alone)]:

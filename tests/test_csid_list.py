@@ -102,7 +102,7 @@ class ListTest(ListedTest):
         self.check("of the pool", found["pools"], [{"name": "p1", "volumes": 4, "bytes": most}])
         self.check("of the node", found["nodes"], [{"id": "n1", "volumes": 4, "bytes": most}])
         self.check("in columns", self.listed(tables)[0].count(b"4        %d B\n" % most), 2)
-        # This is more than one page.
+        # 1,001 volumes are more than one page.
         tables.new().script(MANY % (1001, BLOCK_CAPS) + "UPDATE volumes SET number = number + %d" % (1 << 62))
         wanted = ["vol-%d" % ((1 << 62) + number) for number in range(1, 1002)]
         self.check("1,001 ids", self.ids(tables), wanted)
@@ -156,7 +156,7 @@ class ListTest(ListedTest):
     def test_reader_that_goes_away(self):
         """Nothing is reported, and the status is 0."""
         tables = Tables(self.csid, self.folder).new()
-        # This is more than is written at once.
+        # The list of 2,000 volumes is longer than one write.
         tables.script(MANY % (2000, BLOCK_CAPS) + next_is(2001))
         for words in [], ["--json"]:
             read, write_end = os.pipe()
@@ -263,8 +263,8 @@ class ServedListTest(ListedTest):
         self.addCleanup(self.has_ended.set)
 
     def change(self):
-        """Volumes are made, published at n1, unpublished and deleted, one by one. Each tenth volume stays. So
-        at most one other volume exists, and it is the last one."""
+        """Volumes are made, published at n1, unpublished and deleted, one after another. Each tenth volume
+        stays. So at most one volume besides these exists, and it has the greatest number."""
         for number in itertools.count(1):
             volume_id = text(1, b"vol-%d" % number)
             calls = [("CreateVolume", text(1, b"v%d" % number) + BLOCK)]

@@ -23,7 +23,7 @@ class LowMemoryTest(CsidTest):
         self.low = self.tables.command + ["--low-memory"]
 
     def fill(self):
-        """Makes tables with 1,000 volumes, and a configuration with room for them."""
+        """Makes tables with 1,000 volumes, and a configuration with room for these volumes."""
         self.configure(LARGE_POOL)
         params = "UPDATE volumes SET params = x'%s';" % SHORT_ENTRIES.hex()
         self.tables.new().script(MANY % (1000, BLOCK_CAPS) + params + next_is(1001))
@@ -89,7 +89,7 @@ class MemoryTest(CsidTest):
         return [controller("DeleteVolume", b"\x0a" + bytes([len(name)]) + name) for name in names]
 
     def test_creates_are_refused_before_the_next_opening_has_no_memory(self):
-        """Deletes are allowed. They leave free pages, so the next connection has room for creates."""
+        """Deletes are allowed. They leave free pages, and so the next connection has room for creates."""
         config, most = self.configure(LARGE_POOL.replace(b"2147483648", b"%d" % (20_000 * MIB))), 6000
         for name, words in ("of the file", ["--low-memory"]), ("of memory", []):
             with self.subTest(reads=name):

@@ -26,7 +26,7 @@ while True:
 
 PREEMPTED = "csid: a connection that kept another one waiting was closed\n"
 
-# More bytes of a call than a connection must send before it is served.
+# The first bytes of a long call. A connection is served before it has sent that much.
 PART = frame(PROBE, LONGEST)[:5000]
 
 # A call to send in two parts: its message is an unknown field of 6,003 bytes.

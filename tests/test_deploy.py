@@ -316,7 +316,7 @@ class EtcdManifestTest(RowTest):
         self.assertEqual(affinity["requiredDuringSchedulingIgnoredDuringExecution"], [apart])
 
     def test_pod_is_ready_without_an_answer(self):
-        """Only its front is asked, and it answers while it stands by."""
+        """Only the front of a pod is asked, and it answers also while it waits for the lead."""
         for name, container in self.manifest.containers.items():
             asked = {"readinessProbe", "startupProbe"} & set(container)
             self.assertEqual(asked, {"readinessProbe"} if name == "front" else set(), name)
@@ -340,7 +340,7 @@ class EtcdManifestTest(RowTest):
 
     @each(["provisioner", "attacher"])
     def test_sidecars_are_those_of_the_other_manifest(self, name):
-        """They elect no leader."""
+        """The sidecars elect no leader."""
         args = self.manifest.containers[name]["args"]
         self.assertEqual([word for word in args if "election" in word], [])
         args = [word.replace("ownerref-level=2", "ownerref-level=1") for word in args]

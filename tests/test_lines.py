@@ -11,7 +11,7 @@ from tests.support.rows import RowTest, each
 
 COMMENT = re.compile(r"\s*(?://|--)")
 CLAUSE = re.compile(r"\s*(?:requires|ensures)\b")
-# Lines of code without a limit: imports, attributes, and texts.
+# Lines of code without a limit: imports, attributes, and lines with a text.
 OWN_LENGTH = re.compile(r"\s*(?:(?:ghost |pub )?use |#)|.*\"")
 SOURCES = ["crates/*/src/**/*.rt", "crates/*/specs/**/*.antt", "crates/*/proofs/**/*.antt"]
 GO = ["go/**/*.go"]

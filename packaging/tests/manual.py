@@ -12,7 +12,7 @@ from tests.helps import options_of
 from tests.rows import LeftOut
 
 MANUAL = os.path.join(TOP, "packaging", "manual")
-# For each page, sections that it must have, in this order. It may have other sections between them.
+# For each page, sections that it must have, in this order. The page may have further sections between them.
 SECTIONS = {
     "csid.1": ["NAME", "SYNOPSIS", "DESCRIPTION", "OPTIONS", "ARGUMENTS THAT ARE REFUSED", "LIMITS",
                "A NEWER CSID", "WHAT IS LEFT OUT", "SECRETS", "EXIT STATUS", "DIAGNOSTICS", "FILES",
@@ -209,7 +209,7 @@ def dead_link_rows():
 
 
 def without_rows():
-    """Without csid-etcd, its page is not made, and no other page refers to it."""
+    """Without csid-etcd, its page is not made, and no page refers to it."""
     with tempfile.TemporaryDirectory() as folder:
         yield "the pages without that of csid-etcd", run(MANUAL, "--without-etcd", folder), (0, "")
         yield "what there is", sorted(os.listdir(folder)), sorted(set(SECTIONS) - {"csid-etcd.1"})

@@ -170,7 +170,7 @@ def content_rows(programs, package):
 
 def control_rows(programs, package):
     """The package depends on the packages of the linked libraries and of the programs that the maintainer
-    scripts call. Its checksums match its files."""
+    scripts call. The checksums in the package match its files."""
     linked = {os.path.realpath(it)
               for name in ("csid", "csictl")
               for it in re.findall(r"(/\S+) \(0x", run("ldd", programs[name])[1])}
@@ -237,7 +237,7 @@ def use_rows(programs, system):
     yield "csid-new makes the file of volumes", system.inside(*system.command("csid-new.service")[0]), (0, "",
                                                                                                         "")
     with system.started("csid.service", CSID_SOCKET) as csid:
-        # This comes before the front is started, since the front keeps a connection to csid.
+        # This call comes before the front is started, since the front keeps a connection to csid.
         yield "csid answers", called(system, "CreateVolume", "--name", "a", "--mode", "1"), (0, VOLUME, "")
         with system.started("csid-front.service", FRONT_SOCKET) as front:
             yield "the front is there", os.path.exists(system.path(FRONT_SOCKET)), True

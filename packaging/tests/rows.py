@@ -2,7 +2,7 @@
 
 
 class LeftOut(Exception):
-    """The rows need a program or file that is missing, or another user."""
+    """The rows of a part cannot be checked here: a program or a file is missing, or the user is not root."""
 
 
 def count(parts):

@@ -11,12 +11,13 @@ import subprocess
 import sys
 import time
 
-# The seconds to wait for an event. A scheduler tries a pod that found no room again after 60 to 90 seconds.
+# The seconds to wait for an event. If a pod found no room, the scheduler tries it again after 60 to 90
+# seconds.
 SECONDS = 120
 # Before the first of these versions of Kubernetes, storage capacity must be enabled. Before the second, a
 # port without authentication must be disabled.
 CAPACITY, ONE_PORT = (1, 21), (1, 23)
-# The controllers, without those that judge a node by the reports of a kubelet.
+# The controllers, but not the controllers that judge a node by the reports of a kubelet.
 CONTROLLERS = """
     statefulset disruption serviceaccount serviceaccount-token root-ca-cert-publisher garbagecollector
     persistentvolume-binder attachdetach pvc-protection pv-protection

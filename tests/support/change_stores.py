@@ -11,7 +11,7 @@ OK = v.reply()
 
 
 class ChangeStore:
-    """A change store at a socket. It leads until a test says otherwise. Each connection has a thread."""
+    """A change store at a socket. It leads until a test sets `leads`. Each connection has a thread."""
 
     def __init__(self, path):
         self.path, self.peers, self.leads = path, [], True

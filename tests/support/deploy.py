@@ -64,8 +64,8 @@ def documents(name):
 
 
 class Unit:
-    """A unit of systemd, possibly with a drop-in, as the values of its keys. An empty value removes the
-    earlier values."""
+    """A unit of systemd, possibly with drop-ins: the values of its keys. An empty value removes the earlier
+    values of its key."""
 
     def __init__(self, name, *differences):
         text = "\n".join(re.sub(r"\\\n\s*", "", read(it)) for it in [name, *differences])

@@ -14,8 +14,8 @@ CLOSED, RESET, SILENT = b"", "reset", "silent"
 
 
 class PlayedServer:
-    """A server at a socket, with a thread that takes a connection for each part of a script. It keeps the
-    calls."""
+    """A server at a socket, with a thread that takes a connection for each part of a script. `calls` has the
+    calls that it gets, and `moments` the times of the connections."""
 
     def __init__(self, folder, script):
         self.path, self.script, self.calls, self.moments = os.path.join(folder, "played.sock"), script, [], []

@@ -432,7 +432,7 @@ PLUGIN, NODE = "pools.example.org", "n'2/é \U0001d11e"
 
 
 class RecipeTest(RowTest):
-    """A test of recipes. They need sqlite3."""
+    """A test of recipes. It is skipped if sqlite3 is not installed."""
 
     def setUp(self):
         super().setUp()

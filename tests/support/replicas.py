@@ -29,7 +29,8 @@ def listens(path):
 
 
 class Replica:
-    """A csid over a csid-etcd. Both can be started again. `words` are further arguments of csid."""
+    """A csid over a csid-etcd. Each of the two programs can be started again. `words` are further arguments
+    of csid."""
 
     def __init__(self, programs, folder, number, etcd, *words):
         self.csid_program, self.keeper_program = programs

@@ -49,7 +49,7 @@ def test_of(method, row):
 
 
 class RowTest(unittest.TestCase):
-    """A test whose cases are rows. It has a folder, and may take at most `longest` seconds."""
+    """A test whose cases are rows. It has a folder, and fails after `longest` seconds."""
 
     longest = 10 * SECONDS
 
@@ -109,7 +109,7 @@ class CsidTest(RowTest):
         self.tables, self.config = Tables(self.csid, self.folder), os.path.join(self.folder, "config.toml")
 
     def serve(self, *words, **how):
-        """Starts a server over the tables. It ends with the test."""
+        """Starts a server over the tables. The server ends with the test."""
         server = Server(self.csid, self.folder, *words, **how)
         self.addCleanup(server.end)
         return server

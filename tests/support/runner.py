@@ -17,7 +17,8 @@ LONGEST = ["test_csid_peers", "test_histories", "test_recipes", "test_recipes_et
 
 @dataclasses.dataclass
 class Report:
-    """A test of another process, for the lists of a result. A failure in a class's setup has no name."""
+    """A test that ran in another process, as an entry of the lists of a result. The name is None for a
+    failure in a class's setup."""
 
     description: str
     name: str

@@ -43,7 +43,7 @@ def received(peer):
 
 
 class Served:
-    """A csid with a socket at `path`. Its lines go to a file."""
+    """A csid with a socket at `path`. The lines of csid go to a file."""
 
     def begin(self, words, **how):
         self.said = tempfile.TemporaryFile()

@@ -276,8 +276,8 @@ class Stack:
             mine = [of for of, name in list(self.record.standing.items()) if name.startswith("c%d-" % number)]
 
     def sends(self, source):
-        """Sends a signal to one of the four programs. A stopped program continues, or gets SIGTERM or SIGKILL
-        first. It was stopped for 10 ms to 1.5 times the lease."""
+        """Sends a signal to one of the four programs. After SIGSTOP the program continues within 1.5 leases,
+        and sometimes gets SIGTERM or SIGKILL just before."""
         victim, how = source.choice(self.all), source.choice(SIGNALS)
         if victim.has_ended():
             return
