@@ -50,8 +50,8 @@ EXPLAINED = dict(ROWS["EXPLAINED"])
 
 
 def explained(name, line):
-    """Returns what `csid --check-tables` prints before the line of the refusal, or None if it prints nothing.
-    """
+    """Returns the text that `csid --check-tables` prints in the line before the refusal, or None without such
+    a line."""
     is_of_a = line.startswith("volume 1") and KIND not in line
     return EXPLAINED.get(name, BROKEN_A if is_of_a else None)
 

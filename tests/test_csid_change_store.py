@@ -281,7 +281,7 @@ class RefusedStartTest(PlayedTest):
 
 
 class ChangeTest(PlayedTest):
-    """How csid sends a change to the change store, and what it replies if that fails."""
+    """How csid sends a change to the change store, and what csid replies if the change store fails."""
 
     @each(ROWS["CHANGES"])
     def test_change_is_sent_once_and_answered_after_the_reply_of_the_store(self, name, rows, calls, wanted):

@@ -33,8 +33,8 @@ def next_is(number):
 
 NEXT_9 = next_is(9)
 A = volume(1) + NEXT_9
-# 1 MiB of capabilities, and statements with a number to fill in. They insert attachments with the first of
-# these capabilities, at nodes that no configuration has, or volumes.
+# 1 MiB of capabilities, and statements with a count to fill in. They insert attachments with the first of
+# these capabilities, at nodes that no configuration has, or volumes with capabilities to fill in.
 LARGE_CAPS = ("x'%s'" % b"".join(b"\x1a\x0d\x12\x07\x0a\x05%05d\x1a\x02\x08\x01" % n
                                  for n in range(MIB // 15)).hex())
 PLACES = ("WITH RECURSIVE n (i) AS (VALUES (1) UNION ALL SELECT i + 1 FROM n WHERE i < %d) "
