@@ -22,7 +22,7 @@ SCRIPTS = ["build", "bench/**/*", "packaging/**/*", "scripts/*", "tests/*", "tes
 
 
 def files_of(patterns):
-    """Returns the files of the repository with these names."""
+    """Returns the files of the repository that match these patterns."""
     found = (it for pattern in patterns for it in sorted(glob.glob(pattern, root_dir=TOP, recursive=True)))
     return [it for it in found if os.path.isfile(os.path.join(TOP, it))]
 

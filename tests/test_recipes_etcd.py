@@ -32,7 +32,7 @@ def many_frames(csictl):
 
 
 def calls_of(i):
-    """Yields the words of the calls for one volume."""
+    """Yields the words of the calls for volume `i`."""
     volume, mode = ["--volume", "vol-%d" % i], ["--mode", "3" if i % 2 else "5"]
     create = ["CreateVolume", "--name=%s %d" % (HARD[i % len(HARD)], i), "--required", str((1 + i % 8) * MIB)]
     create += [*mode, "--topology", "zone=" + "ab"[i % 2]]

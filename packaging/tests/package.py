@@ -111,8 +111,8 @@ class System:
         return run("chroot", self.root, *words)
 
     def command(self, unit):
-        """Returns the command that a unit starts, and the variables that it sets. A variable may be a word of
-        the command."""
+        """Returns the words of the command that a unit starts, and the variables that it sets. A word that is
+        a variable is replaced by the words of its value."""
         text = re.sub(r"\\\n\s*", "", read(self.path("lib/systemd/system/" + unit)))
         variables = dict(word.split("=", 1)
                          for line in re.findall(r"^Environment=(.*)$", text, re.M)
@@ -271,7 +271,8 @@ def upgrade_rows(system, package, folder):
 
 
 def remove_rows(system, package):
-    """A remove keeps the tables and the configuration, and a purge keeps the tables."""
+    """A remove keeps the tables and the configuration. A purge keeps the tables, but removes a folder without
+    tables."""
     before = system.tables()
     yield "a remove", system.dpkg("--remove", "csid"), (0, "", STOPPED)
     yield "what it leaves", (system.tables(), os.path.exists(system.path(CONFIG)),

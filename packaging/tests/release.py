@@ -213,8 +213,8 @@ def refusal_rows(is_etcd):
 
 
 def refused(top, programs, newer, again):
-    """Runs ./release with these programs built, a newer source, and some programs built again. Returns its
-    exit status, output and errors."""
+    """Runs ./release with these programs built, a newer source unless it is None, and some programs built
+    again. Returns its exit status, output and errors."""
     for path in programs:
         touch(os.path.join(top, path), (1 << 30) + (2 if path in again else 0))
     if newer:

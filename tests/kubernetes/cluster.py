@@ -65,7 +65,8 @@ class Cluster:
         self.address = "https://127.0.0.1:%d" % self.port
 
     def begin(self):
-        """Starts the servers, each with a log in the folder."""
+        """Starts the servers, each with a log in the folder, and waits for the API server. The controllers
+        are started only if their programs are given."""
         self.certify()
         self.start_servers()
         if not wait(self.is_ready):

@@ -39,7 +39,7 @@ def can(cluster, group, resource, verb, namespace):
 
 
 def said_rows(cluster, may):
-    """Asks kubectl for each right alone."""
+    """Asks kubectl for each right alone, if the account has it."""
     for role, namespace in [("ClusterRole", "default"), ("Role", "csid")]:
         for group, resource, verb in sorted(may[role]):
             found = can(cluster, group, resource, verb, namespace)

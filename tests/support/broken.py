@@ -242,7 +242,8 @@ def pings_and_settings(source, _):
 
 
 def calls(source, corpus):
-    """Calls with broken messages, some of them in broken length prefixes or frames."""
+    """Calls with broken messages. The length prefix of some messages is also broken, and in half of the
+    inputs the whole stream."""
     breaker, whole = Breaker(source, corpus), b""
     for at in range(source.choice((1, 1, 3, 20))):
         path, message = source.choice(corpus)

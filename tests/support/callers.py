@@ -153,8 +153,8 @@ class Caller:
         return None if self.source.random() < 0.1 else reply
 
     def calls(self, call, method, *words):
-        """Makes a call, and records its effect on a model: this method with these arguments. Returns the
-        reply, or None."""
+        """Makes a call, and records it as an operation, whose effect on a model is this method with these
+        arguments. Returns the reply, or None."""
         self.connect()
         begun, until, reply = time.monotonic(), time.monotonic() + SECONDS, self.tries(call)
         while reply is None and self.repeats and time.monotonic() < until:

@@ -21,7 +21,7 @@ SINGLE, SHARED, ONE_WRITER, WRITERS, SINGLE_WRITER, MULTI_WRITER = 1, 3, 4, 5, 6
 
 
 def capability(key):
-    """Returns the parts of the message of a capability with this key."""
+    """Returns the fields of a capability with this key."""
     kind, fs, mode = key
     return v.mount(mode, *[v.fs_type(fs)] * bool(fs)) if kind else v.block(mode)
 
@@ -221,7 +221,7 @@ class Requests:
         return self.random.choice(values)
 
     def id(self):
-        """Returns the id of a volume: mostly of an existing volume, otherwise of another one, or a text that
+        """Returns the id of an existing volume in most cases, otherwise the id of any volume, or a text that
         is not an id."""
         number = self.one_of(*[it.number for it in self.model.volumes] or [self.model.next])
         return self.one_of("vol-0%d" % number, str(number),

@@ -169,7 +169,8 @@ class Etcd(etcd.Etcd):
             self.start()
 
     def ask(self, what, begin, end=None, **how):
-        """Reads or removes a range of keys. Returns the keys with their values and revisions."""
+        """Reads a range of keys (`range`), or removes it (`deleterange`). Returns the keys that it reads,
+        with their values and revisions."""
         body, told = {
             "key": base64.b64encode(begin).decode(),
             "range_end": base64.b64encode(end or begin[:-1] + bytes([begin[-1] + 1])).decode(),

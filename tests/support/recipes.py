@@ -211,8 +211,8 @@ class Cluster(Control):
             self.start(unit)
 
     def scale(self, *words):
-        """Changes the number of pods. The pod ends after this call, and answers calls until then. A further
-        call starts it again."""
+        """Changes the number of pods to 0 or 1. For 0 the pod ends after this call, and answers calls until
+        then. For 1 a pod is started."""
         if words == ("statefulset", "csid", "--replicas", "1"):
             return self.begin_statefulset()
         assert words[1:] == ("csid", "--replicas", "0") and os.path.exists(self.objects + words[0]), words

@@ -77,7 +77,7 @@ class Engine:
         return self.path("host", *names)
 
     def begin(self):
-        """Starts dockerd. /plugin has the folder of the plugin."""
+        """Starts dockerd, and waits until it answers. In its root the folder of the plugin is /plugin."""
         self.make_plugin()
         words = [os.path.join(TOP, "tests/swarm/dockerd"), self.root, self.folder, self.cgroup]
         with open(self.path("dockerd.log"), "w") as log:
