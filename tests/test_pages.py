@@ -50,8 +50,8 @@ class ScriptTest(FilesTest):
 
 class CheckPagesTest(ScriptTest):
     def places(self, rows, *words):
-        """Runs check-pages over a page with a paragraph for each row. Returns the status, and the lines about
-        each row."""
+        """Runs check-pages over a page with a paragraph for each row. Returns the status, and the reports by
+        line number."""
         self.write("docs/PAGE.md", "\n\n".join(text for _, text, _ in rows))
         status, lines = self.ended("check-pages", *words, "docs/PAGE.md")
         said = {}

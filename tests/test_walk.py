@@ -230,8 +230,8 @@ class Walk:
             self.seen[FAULTS[how]] += 1
 
     def starts_anew(self):
-        """Ends or kills csid, and starts it again over its file. After an end the rows must be the model's.
-        """
+        """Ends or kills csid, and starts it again over its file, often with an older format. After an end the
+        rows must be the model's."""
         how = self.requests.one_of("ends", "is killed", "is older", "is older")
         if how != "ends":
             self.server.kill()

@@ -70,8 +70,8 @@ def folder_rows(folder, name, package):
 
 
 def files_of(programs):
-    """Returns the files of a release without licences: the programs, their manual pages and completions, and
-    the committed files of README.md, docs/ and deploy/."""
+    """Returns the files of a release without licences: the programs, their manual pages and completions,
+    csid.spdx.json, VERSION, README.md, and the committed files of docs/ and deploy/."""
     parts = ["README.md", "VERSION", "docs", "deploy"]
     committed = output("git", "-C", TOP, "ls-files", *parts).split("\n")
     pages = [it + ".1" for it in programs] + ["csid-config.5", "csid-protocol.7", "csid-new.8"]
@@ -176,8 +176,8 @@ def clone(folder):
 
 
 def touch(path, seconds):
-    """Makes a file unless it exists, and makes it executable. Its date is `seconds` after the date of this
-    file."""
+    """Makes a file unless it exists, and makes it executable. Its date is `seconds` after the date of
+    packaging/tests/release.py."""
     os.makedirs(os.path.dirname(path), exist_ok=True)
     with open(path, "a"):
         pass

@@ -15,8 +15,8 @@ def budget(cluster):
 
 
 def run(cluster, ready):
-    """Reports that the pod runs and if it is ready, as a kubelet does, and waits until the budget counts it.
-    """
+    """Reports as a kubelet does that the pod runs, and that it is ready if `ready`. Waits until the budget
+    agrees."""
     conditions = [{"type": "Ready", "status": str(ready)}]
     status = {"phase": "Running", "conditions": conditions}
     cluster.ask("PATCH", PATH + "/status", {"status": status})

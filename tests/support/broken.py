@@ -262,6 +262,6 @@ KINDS = {raw_bytes: 10, any_frames: 10, long_headers: 1, reset_calls: 10, silent
 
 
 def broken_http(source, corpus):
-    """Returns a random kind of input for the front, and an input of this kind."""
+    """Returns the name of a random kind of input for the front, and an input of this kind."""
     [kind] = source.choices(list(KINDS), list(KINDS.values()))
     return kind.__name__, (b"" if kind is raw_bytes else HELLO) + kind(source, corpus)

@@ -197,7 +197,7 @@ def id_in(reply):
 
 
 def works_on(caller, text, name):
-    """Makes a random call for a volume."""
+    """Makes a random call for a volume, or lists all volumes."""
     source = caller.source
     node, mutable = source.choice(("n1", "n2")), {source.choice("ij"): source.choice("12")}
     source.choice((lambda: caller.creates(name, source.choice(({}, mutable))),

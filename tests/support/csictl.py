@@ -91,8 +91,8 @@ class Server(Served):
         return self.end()
 
     def end(self):
-        """Waits until csid has ended. Returns its lines, without the line about the contents of the file, and
-        its status."""
+        """Waits until csid has ended, and removes its socket. Returns its lines, without the line about the
+        contents of the file, and its status."""
         self.process.wait(timeout=SECONDS)
         os.unlink(self.path)
         held = "(?m)^csid: %s: (%s|volumes .*)\n" % (re.escape(self.tables), NEW)

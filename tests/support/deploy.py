@@ -295,7 +295,8 @@ class Pod:
                                                 env=self.variables(**given), stderr=subprocess.DEVNULL)
 
     def ends(self, name):
-        """Sends SIGTERM to the first process of a container. Returns True if the container then ends."""
+        """Sends SIGTERM to the first process of a container. Returns True if the container then ends within
+        15 seconds."""
         process = self.processes[name]
         with open("/proc/%d/task/%d/children" % (process.pid, process.pid)) as children:
             first = int(children.read().split()[0])

@@ -85,7 +85,7 @@ def block(mode):
 
 def pairs(field, key, size):
     """Returns the hexadecimal digits of a field of parameters with one entry: a key of one byte, and a value
-    of 4,093 to 16,000 bytes."""
+    of 128 to 16,000 bytes."""
 
     def long(tag, length):
         return bytes([tag, length & 127 | 128, length >> 7])
