@@ -131,8 +131,8 @@ class ScarceTest(SocketTest):
 
     @each([(4, False), (5, True)])
     def test_server_without_descriptors_for_its_socket_ends(self, count, is_made):
-        """With four descriptors no file of tables is made. With five the file is made, but not its WAL and
-        not the socket."""
+        """With four descriptors no file of tables is made. With five the file is made, but the tables cannot
+        be opened."""
         server, no_file = self.serve_two(handles(count))
         self.assertEqual(server.end(), (no_file + "csid: %s: %s\n" % (server.path, NO_HANDLE), 7))
         self.assertEqual(os.path.exists(server.tables), is_made)

@@ -122,7 +122,8 @@ class RecipesTest(RecipeTest):
         return copies
 
     def test_attachments_of_kubernetes(self):
-        """The block that writes `attached` gets kubectl's lines about two volumes and three attachments."""
+        """The block that writes `attached` gets kubectl's lines about two volumes and four attachments, one
+        of a volume that is not listed."""
         (_, block) = blocks("### Volume ids in Kubernetes", "DEPLOY.md")
         with tempfile.TemporaryDirectory() as folder:
             kubectl = os.path.join(folder, "kubectl")
