@@ -331,7 +331,7 @@ class LeadTest(PlayedTest):
     """A change store that does not lead any more, or has gone. csid answers no later call from memory."""
 
     def serve_two(self):
-        """Starts csid over a store that has another volume when it is read again."""
+        """Returns a csid over a store that has another volume when it is read again."""
         return self.serve(page(meta(2), volume(1, "a")), page(meta(3), volume(2, "b")))
 
     def ask_after(self, server, event, *calls):

@@ -50,7 +50,7 @@ class DiskTest(CsidTest):
         return out, error.decode(), process.returncode
 
     def configure_much(self):
-        """Writes a configuration with a large pool."""
+        """Writes a configuration with a large pool. Returns its path."""
         return self.configure(sample((b"10485760", b"%d" % (20000 * MIB))))
 
 
@@ -327,7 +327,7 @@ class RefusedCopyTest(DiskTest):
 
     def serve_once(self, *injected):
         """Runs a csid that serves one connection with a Probe. Returns the number of its reads, its reply and
-        its lines."""
+        its lines. Skips the test if strace cannot be run."""
         trace, traced = (os.path.join(self.folder, name) for name in ("trace", "traced"))
         command = ["strace", "-f", "-o", trace, "-e", "trace=pread64", *injected, self.csid]
         write(traced, b'#!/bin/sh\nexec %s "$@"\n' % shlex.join(command).encode())

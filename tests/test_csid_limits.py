@@ -16,7 +16,7 @@ from tests.support.tables import BLOCK_CAPS, MANY, MIB, SHORT_ENTRIES, next_is
 
 def own_group():
     """Returns the folder of this process's control group for memory, and the name of its file with the limit.
-    """
+    Skips the test if no group limits memory."""
     with open("/proc/self/cgroup", encoding="ascii") as lines:
         groups = dict(line.rstrip("\n").split(":", 2)[1:] for line in lines)
     for root, controllers, name in (("/sys/fs/cgroup/memory", "memory", "memory.limit_in_bytes"),

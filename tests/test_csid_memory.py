@@ -113,7 +113,7 @@ class ReserveTest(CsidTest):
     NODES = ["n%02d" % it + "n" * 253 for it in range(64)]
 
     def serve_low(self, volumes, caps, size=9 * MIB):
-        """Starts csid over this many volumes, with little memory."""
+        """Returns a csid over this many volumes, with little memory."""
         nodes = ["[[node]]\nid = '%s'\nmax_volumes = 100000\n" % it for it in self.NODES]
         pool = LARGE_POOL.replace(b"2147483648", b"%d" % (100_000 * MIB))
         config = self.configure(pool + "".join(nodes).encode())

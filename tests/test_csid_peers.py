@@ -146,7 +146,7 @@ class PeersTest(CsidTest):
         self.assertEqual(peer.recv(4096), READY)
 
     def connect_alone(self):
-        """Starts another server, and makes the only connection to it."""
+        """Starts another server, and returns the only connection to it."""
         folder = os.path.join(self.folder, "alone")
         os.mkdir(folder)
         server = Server(self.csid, folder)

@@ -33,8 +33,8 @@ def by_turns(csid, pieces, expected):
 
 
 def without_waiting(csid, given):
-    """Runs csid over a pipe that has the bytes `given` and then no more. A read of the empty pipe does not
-    block, and does not find the end of the input, since the writer stays open."""
+    """Returns the result of csid over a pipe that has the bytes `given` and then no more. A read of the empty
+    pipe does not block, and does not find the end of the input, since the writer stays open."""
     read, write = os.pipe()
     os.set_blocking(read, False)
     os.write(write, given)

@@ -62,7 +62,7 @@ class SurveyTest(ServeTest):
         self.assertEqual(server.end(), (begun, KILLED, True))
 
     def fill(self):
-        """Makes tables with two volumes. The first is attached."""
+        """Makes tables with two volumes, and returns them. The first volume is attached."""
         publish = controller("ControllerPublishVolume", VOL_1 + bytes.fromhex("12026e31") + BLOCK)
         tables = self.tables
         tables.run(controller("CreateVolume", CREATE_A) + publish + controller("CreateVolume", CREATE_B))
@@ -243,8 +243,8 @@ class StayingPeersTest(ServeTest):
     PARTS = [frame(PROBE)[:size] for size in (0, 1, 2, 20, 28)]
 
     def hold(self, count):
-        """Starts a server with this many connections. Each connection has sent a part of a call. Five lengths
-        of parts alternate."""
+        """Returns a server, and this many connections to it. Each connection has sent a part of a call. Five
+        lengths of parts alternate."""
         server = self.serve()
         return server, [self.connect(server, self.PARTS[it % len(self.PARTS)]) for it in range(count)]
 

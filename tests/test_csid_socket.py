@@ -28,7 +28,7 @@ def handles(count):
 
 
 def done(peer):
-    """Reads the rest of a connection whose calls were all answered. csid closes the file before the
+    """Returns the rest of a connection whose calls were all answered. csid closes the file before the
     connection."""
     peer.shutdown(socket.SHUT_WR)
     return peer.recv(4096)
@@ -274,7 +274,8 @@ class KeptTest(SocketTest):
         self.assertEqual(self.ask(method), ("", Line("csictl: " + self.server.path + ": "), 5))
 
     def connect(self):
-        """Opens the file in sqlite3, once csid has closed it after its reply."""
+        """Returns a connection of sqlite3 to the file. csid may close the file a moment after its last reply:
+        sqlite3 then waits for the lock."""
         connection = sqlite3.connect(self.file, isolation_level=None)
         self.addCleanup(connection.close)
         return connection

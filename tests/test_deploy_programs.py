@@ -74,7 +74,7 @@ class FirstStepTest(ProgramTest):
     def steps(self):
         """Yields for each first step: its place, a function, the path of the file that it makes, and True if
         the step needs the variable NEW. The function runs the step, and returns its status, standard error
-        and the content of the file, or None if there is no file."""
+        and the content of the file, or None if there is no file. Skips the test if csid is not built."""
         if not os.access(self.csid, os.X_OK):
             self.skipTest("%s is not built" % self.csid)
         os.symlink(self.csid, os.path.join(self.folder, "csid"))

@@ -66,7 +66,7 @@ class Cluster:
 
     def begin(self):
         """Starts the servers, each with a log in the folder, and waits for the API server. The controllers
-        are started only if their programs are given."""
+        are started only if their programs are given. Ends the script if the API server does not get ready."""
         self.certify()
         self.start_servers()
         if not wait(self.is_ready):

@@ -119,7 +119,7 @@ class Caller:
             self.peer = self.fronts.connect()
 
     def receive(self, size):
-        """Receives `size` bytes, or fewer if the connection ends."""
+        """Returns the next `size` bytes, or fewer if the connection ends."""
         got = b""
         while len(got) < size and (piece := self.peer.recv(size - len(got))):
             got += piece
@@ -233,9 +233,10 @@ def clears(caller):
 
 
 def record(fronts, seed, is_shared, is_killed):
-    """Records a history of three clients: at most twelve calls at the same time, then one client deletes all
-    volumes. In a shared history all clients use one volume, and each try is an operation. Otherwise two
-    clients use a volume each, the third client reads, and a call with its repeats is an operation."""
+    """Returns the operations of a history of three clients: at most twelve calls at the same time, then one
+    client deletes all volumes. In a shared history all clients use one volume, and each try is an operation.
+    Otherwise two clients use a volume each, the third client reads, and a call with its repeats is an
+    operation."""
     operations, source = [], random.Random(seed)
     own = Caller(fronts, 3, operations, True, random.Random("%s own" % seed))
     callers = [Caller(fronts, number, operations, not is_shared, random.Random("%s %d" % (seed, number)))

@@ -10,7 +10,8 @@ LARGE_POOL = fixture("large-pool.toml")
 
 
 def sample(*changes):
-    """Returns the sample configuration, with the first occurrence of each text replaced."""
+    """Returns the sample configuration, with the first occurrence of each text replaced. Raises ValueError if
+    it lacks a text."""
     text = SAMPLE
     for old, new in changes:
         if old not in text:

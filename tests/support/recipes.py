@@ -244,7 +244,8 @@ class Cluster(Control):
         wait(lambda: os.path.exists(self.pods + name) == is_there)
 
     def exec(self, *words):
-        """Runs a command in the pod with the claim, with input if the recipe asks for it."""
+        """Runs a command in the pod with the claim, with input if the recipe asks for it. Ends the script
+        with the status of the command."""
         *options, pod = words[: words.index("--")]
         assert os.path.exists(self.pods + pod), pod
         sys.exit(subprocess.run(words[words.index("--") + 1 :],

@@ -122,7 +122,7 @@ class Stacks(Fronts):
         self.leader, self.takeovers = self.leads(), 0
 
     def leads(self):
-        """Waits for the stack that serves, and returns it."""
+        """Waits for the stack that serves, and returns it. Raises TimeoutError if none serves in time."""
         until = time.monotonic() + SECONDS
         while not (peer := self.connect()):
             if time.monotonic() > until:

@@ -109,7 +109,7 @@ class CsidTest(RowTest):
         self.tables, self.config = Tables(self.csid, self.folder), os.path.join(self.folder, "config.toml")
 
     def serve(self, *words, **how):
-        """Starts a server over the tables. The server ends with the test."""
+        """Starts a server over the tables, and returns it. The server ends with the test."""
         server = Server(self.csid, self.folder, *words, **how)
         self.addCleanup(server.end)
         return server

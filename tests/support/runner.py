@@ -96,7 +96,8 @@ def run_apart(name, tests, *how):
 
 
 def by_class(suite, classes):
-    """Adds each test of nested suites to the list of its class."""
+    """Adds each test of nested suites to `classes`, which has a list for each class, and returns `classes`.
+    """
     for test in suite:
         if isinstance(test, unittest.TestSuite):
             by_class(test, classes)

@@ -117,8 +117,8 @@ KILLED = -signal.SIGKILL
 
 
 def ended(lines, line):
-    """Counts ended connections by their way of ending: the lines that equal `line` under "of a line", and the
-    numbers in lines with counts under the words of these lines."""
+    """Returns the numbers of ended connections by their way of ending: the lines that equal `line` under "of
+    a line", and the numbers in lines with counts under the words of these lines."""
     counts = collections.Counter({"of a line": lines.count(line)})
     for told in re.findall(r"(?m)^csid: \d+ more connections ended: (.*)$", lines):
         for part in told.split(", "):

@@ -115,7 +115,8 @@ class Tables:
         return run(self.command + (["--config", config] if config else []), input=given, **how)
 
     def new(self):
-        """Removes the files, and has csid make new tables."""
+        """Removes the files, and has csid make new tables. Returns this object. Raises ValueError if csid
+        makes none."""
         if self.clear().run() != (b"", "", 0):
             raise ValueError("no tables could be made")
         return self

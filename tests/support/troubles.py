@@ -311,7 +311,7 @@ class Stack:
                            not told or told[0][0] != 0 or self.etcd.locks())
 
     def revive(self):
-        """Starts the programs that have ended, and continues the stopped programs."""
+        """Starts the programs that have ended, and continues the stopped programs. Returns True."""
         for it in self.all:
             it.revive()
             it.process.send_signal(signal.SIGCONT)
@@ -363,8 +363,8 @@ def signals(run, clocks=None):
 
 
 def clock(run):
-    """Each start of a program gets another monotonic clock and another clock since the boot, in most cases
-    years ahead or some time behind."""
+    """The part `signals`, where each start of a program gets another monotonic clock and another clock since
+    the boot, in most cases years ahead or some time behind."""
     print(("clock: left out: jumps of the wall clock, which no namespace has, so that they would be those of"
            " the whole machine"), flush=True)
     source = random.Random(run.asked.seed)

@@ -77,7 +77,8 @@ class Engine:
         return self.path("host", *names)
 
     def begin(self):
-        """Starts dockerd, and waits until it answers. In its root the folder of the plugin is /plugin."""
+        """Starts dockerd, and waits until it answers. In its root the folder of the plugin is /plugin. Ends
+        the script if it does not answer in time."""
         self.make_plugin()
         words = [os.path.join(TOP, "tests/swarm/dockerd"), self.root, self.folder, self.cgroup]
         with open(self.path("dockerd.log"), "w") as log:
