@@ -26,7 +26,8 @@ def write(folder, name, content):
 
 
 def run(command, given, keep=False):
-    """Runs a program over a file. Ends the bench if the program fails."""
+    """Runs a program with a file as its standard input. Returns a `Run`, without output unless `keep`. Ends
+    the bench if the program fails."""
     with open(given, "rb") as stdin, tempfile.TemporaryFile() as kept, open(os.devnull, "wb") as nowhere:
         begin = time.perf_counter()
         process = subprocess.Popen(command, stdin=stdin, stdout=kept if keep else nowhere)
@@ -40,7 +41,7 @@ def run(command, given, keep=False):
 
 
 def compare(bench, command, given, replies):
-    """Ends the bench if the replies differ from the expected replies."""
+    """Runs csid over a file. Ends the bench if csid fails, or if its output is not `replies`."""
     with open(given, "rb") as stdin:
         ran = subprocess.run(command, stdin=stdin, stdout=subprocess.PIPE)
     if ran.returncode != 0 or ran.stdout != replies:
@@ -54,7 +55,8 @@ ALLOCATIONS = "memcheck", rb"total heap usage: ([0-9,]+) allocs"
 
 
 def valgrind(tool, pattern, command, **how):
-    """Runs a tool of valgrind. Returns its result and the completed process."""
+    """Runs a command under a tool of valgrind. Returns the number that the tool reports, and the completed
+    process."""
     words = ["valgrind", "--tool=" + tool, *["--callgrind-out-file=/dev/null"] * (tool == "callgrind")]
     ran = subprocess.run([*words, *command], stderr=subprocess.PIPE, **how)
     return int(re.search(pattern, ran.stderr)[1].replace(b",", b"")), ran

@@ -36,7 +36,7 @@ def varint(number):
 
 
 def part(number, payload):
-    """Returns the encoding of a field with this payload."""
+    """Returns the encoding of a field of wire type 2 with this payload."""
     return varint(8 * number + 2) + varint(len(payload)) + payload
 
 
@@ -62,7 +62,8 @@ def volume_id(number):
 
 
 def volume(number):
-    """Returns the encoding of the volume with this number: 1 MiB of the pool 'p', without a topology."""
+    """Returns field 1 of a message, with the volume of this number: 1 MiB of the pool 'p', without a
+    topology."""
     context = part(3, part(1, b"pool") + part(2, b"p"))
     return part(1, bytes.fromhex("08808040") + part(2, volume_id(number)) + context)
 
@@ -72,7 +73,7 @@ def short_name(number):
 
 
 def alike_name(number):
-    """Returns a name of 12 bytes. All names have the same first bytes."""
+    """Returns a name of 12 bytes. The first six bytes of all names are the same."""
     return b"volume%06d" % number
 
 
@@ -99,14 +100,14 @@ def delete(number):
 
 
 def capacity(standing):
-    """Returns a GetCapacity call, with the free bytes while `standing` volumes exist."""
+    """Returns a GetCapacity call, and its reply while `standing` volumes exist."""
     free = b"\x08" + varint(POOL_BYTES - standing * MIB)
     return call(b"GetCapacity", b""), reply(free + part(2, b"\x08" + varint(GREATEST_BYTES)))
 
 
 def page(after, entries, last, published=()):
-    """Returns a ListVolumes call for a page whose volumes all exist. It begins after the number `after`.
-    `last` is the number of the last volume."""
+    """Returns a ListVolumes call and its reply: at most `entries` volumes, from the number after `after` up
+    to `last`. All of them exist, and the volumes in `published` are at n1."""
     token = part(2, b"%d" % after) if after else b""
     first, end = after + 1, min(after + entries, last)
     body = b"".join(part(1, volume(number) + part(2, part(1, b"n1") if number in published else b""))
@@ -124,13 +125,13 @@ def creates(count, standing=0, name=short_name):
 
 
 def pages(standing, count):
-    """Returns the calls of some walks over all volumes, `count` pages in all."""
+    """Returns `count` ListVolumes calls with their replies: pages of 100, in walks over all volumes."""
     walk = [page(after, 100, standing) for after in range(0, standing, 100)]
     return [walk[number % len(walk)] for number in range(count)]
 
 
 def mix(standing, rounds, with_capacity=True):
-    """Returns the calls of the mix. A round is for one volume, which is deleted at its end: a create, a
+    """Yields the calls of the mix. A round is for one volume, which is deleted at its end: a create, a
     publish, a page of ten with six entries, the free bytes (unless they are left out), an unpublish and a
     delete."""
     for number in range(standing + 1, standing + rounds + 1):
@@ -143,7 +144,7 @@ def mix(standing, rounds, with_capacity=True):
 
 
 def asked(calls):
-    """Returns the stream of calls as bytes."""
+    """Returns the frames of the calls, without their replies, as one stream."""
     return b"".join(frame for frame, _ in calls)
 
 

@@ -31,7 +31,8 @@ def shrunk(notation, most):
 
 
 def closing(text, at):
-    """Returns the index of the bracket that closes the bracket at index `at`."""
+    """Returns the index of the bracket that closes the bracket before index `at`. Brackets in quotes do not
+    count. Raises ValueError if there is no such bracket."""
     depth, quoted = 0, False
     for place in range(at, len(text)):
         character = text[place]
@@ -101,8 +102,8 @@ MOUNTS = "[1a(12(0a(#3)) 1a(0801))]*80600"
 
 
 def shuffled(count):
-    """Returns keys of a letter and a sign. Their order by bytes differs from the order of their folded
-    letters."""
+    """Returns the notation of `count` segments. Each key is a letter and another character. The order of the
+    keys by bytes differs from their order without case."""
     second = [it for it in map(chr, range(33, 127)) if it != '"' and not it.isupper()]
     keys = [one + other for other in second for one in "hijklmnopqrstuvwxyzabcdefg"][:count]
     for place, key in enumerate(keys):

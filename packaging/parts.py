@@ -2,8 +2,8 @@
 sources.
 
 The README.md of a crate of the kit names the Rust crate that it follows, and the licence texts are next to
-it. The version of a Debian package is from dpkg, and its licence from its file `copyright`. If a fact is in
-neither place, it is reported as unknown.
+it. The version of a Debian package is from dpkg, and its licence from its file `copyright`. A licence that is
+in neither place is reported as NOASSERTION.
 """
 import os
 import re
@@ -33,8 +33,8 @@ class Failure(Exception):
 
 
 class Part:
-    """A part of a program: its version and licence, its origin, the files with the licence's text, and its
-    own parts."""
+    """A part of a program: its version and licence, its origin, the files with the licence's text, and the
+    names of the crates that it uses."""
 
     def __init__(self, name, version, licence, source, files, needs=()):
         self.name, self.version, self.licence, self.source, self.files, self.needs = (name, version, licence,
@@ -45,7 +45,7 @@ class Part:
 
 
 def kit():
-    """Returns the folder of the kit, whose `rt` is on the PATH."""
+    """Returns the folder of the kit whose `rt` is on the PATH. Raises `Failure` if there is no `rt`."""
     found = shutil.which("rt")
     if found is None:
         raise Failure(
@@ -79,7 +79,8 @@ def read_head(path):
 
 
 def closure(name, needs):
-    """Returns a name and all names that it needs, in order."""
+    """Returns a name and all names that it needs, directly or not, sorted. The value of each is the sorted
+    list of its own needs."""
     found, waiting = {}, [name]
     while waiting:
         it = waiting.pop()
@@ -94,8 +95,8 @@ def licence_files(folder):
 
 
 def licence_of(files):
-    """Returns the licence of these texts: one licence, or the usual choice of Rust crates. Other sets are
-    unknown."""
+    """Returns the licence in these files: the licence of a single file, or both licences of LICENSE-APACHE
+    and LICENSE-MIT, joined by OR. Returns `UNKNOWN` for other sets of files."""
     known = [next((short for short, words in TEXTS if words in read(it)), UNKNOWN) for it in files]
     if [os.path.basename(it) for it in files] == ["LICENSE-APACHE", "LICENSE-MIT"]:
         return " OR ".join(known)
@@ -103,7 +104,8 @@ def licence_of(files):
 
 
 def source_of(folder, name):
-    """Returns the Rust crate that a crate of the kit follows, and its version."""
+    """Returns a phrase with the name of the kit. If the README.md of the crate names the Rust crate that it
+    follows, the phrase has that crate and its version."""
     path = os.path.join(folder, "README.md")
     found = (re.search(r"Rust crate `%s` (\d[\w.]*\d)" % re.escape(name), read(path))
              if os.path.isfile(path)
@@ -119,7 +121,7 @@ def kit_part(name, needs):
 
 
 def kit_parts(program):
-    """Returns the crates of the kit that a program in Rattle uses, each with the crates that it needs."""
+    """Returns as parts the crates of the kit that a program in Rattle uses, directly or not."""
     own = crates()
     found = closure(program, lambda it: needs_of_crate(it, own))
     return [kit_part(name, needs) for name, needs in found.items() if name not in own]
@@ -148,15 +150,16 @@ GO = {"csid-front": "go/front", "csid-etcd": "go/etcd"}
 
 
 def go_folders(program):
-    """Returns the folders of all packages that a program in Go imports."""
+    """Returns the folders of all packages that a program in Go imports, directly or not, outside this
+    repository."""
     listed = said(os.path.join(TOP, "go", "go"), "list", "-deps", "-f", "{{.Dir}}", ".",
                   cwd=os.path.join(TOP, GO[program]))
     return sorted({os.path.realpath(it) for it in listed.split("\n") if it and not it.startswith(TOP)})
 
 
 def debian_names(folders):
-    """Returns the Debian packages that own the sources in these folders. All files of a folder are in one
-    package."""
+    """Returns the sorted names of the Debian packages that own the sources in these folders. One file of a
+    folder is looked up, since all files of a folder are in one package."""
     sources = [os.path.join(it, next(name for name in sorted(os.listdir(it)) if name.endswith((".go", ".s"))))
                for it in folders]
     return sorted(

@@ -70,7 +70,8 @@ def link(source, to):
 
 
 def make_stage(stage, name, lines, uses):
-    """Makes a folder with all crates that a crate uses, built. Returns the path for the crate itself."""
+    """Makes a folder with all crates that a crate uses, as they are built. Makes in it an empty folder for
+    the crate itself, and returns the path of this folder."""
     room = f"{stage}/crates/{name}"
     os.makedirs(room)
     with open(f"{stage}/crates.txt", "w", encoding="utf-8") as file:

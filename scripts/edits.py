@@ -29,7 +29,8 @@ def module_of(file):
 
 
 def function_at(file, text, number):
-    """Returns the function at a line of a file, counted from 1, with its attributes, or None."""
+    """Returns the function at line `number` of a file, counted from 1, or None. The lines of attributes above
+    a function belong to it."""
     lines = text.split("\n")
     while number < len(lines) and lines[number - 1].lstrip().startswith("#["):
         number += 1
@@ -84,7 +85,8 @@ def block_name(head):
 
 
 def split_brackets(text):
-    """Splits a text that begins with an angle bracket after the matching bracket."""
+    """Returns the text in the angle brackets at the start of a text, and the text after them. If a text
+    begins otherwise, returns '' and the text."""
     depth = 0
     for at, sign in enumerate(text if text.startswith("<") else ""):
         depth += (sign == "<") - (sign == ">" and text[at - 1] != "-")
@@ -111,7 +113,8 @@ def words_of(text):
 
 
 class Edit:
-    """A wrong body: for each file, the old texts and the new texts."""
+    """A wrong body: the files that it changes, each with an old text and a new text, and the reason why it is
+    kept, or ''."""
 
     def __init__(self, crate, name, lines, is_in_gate=False):
         self.crate, self.name, self.is_in_gate = crate, name, is_in_gate
@@ -131,7 +134,7 @@ class Edit:
 
     def apply(self, texts):
         """Applies the edit to the texts of the crate's files, and reads files that `texts` lacks. Returns
-        True if each old text was in its file exactly once."""
+        True if each old text was in its file exactly once. Otherwise `texts` is not changed."""
         changed = {}
         for file, old, new in self.pairs:
             text = changed.get(file) or texts.get(file) or read(f"crates/{self.crate}/{file}")
@@ -169,7 +172,8 @@ def read(path):
 
 
 def edits_in(crate):
-    """Returns the edits of a crate: the edits that the gate tries, and the others."""
+    """Returns the edits of a crate: first the edits that the gate tries, then the edits of tests/edits.
+    Raises ValueError if two edits have the same name, or if a line has no known form."""
     folder, path = f"crates/{crate}/must-fail", f"tests/edits/{crate}.edits"
     names = [it for it in sorted(os.listdir(folder)) if it.endswith(".edit")] if os.path.isdir(folder) else []
     found = [Edit(crate, it.removesuffix(".edit"), read(f"{folder}/{it}").split("\n"), True) for it in names]

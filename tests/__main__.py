@@ -2,10 +2,10 @@
 
 usage: python3 -m tests [arguments of python3 -m unittest]
 
-Each class of tests runs in a process of its own, at most one for each processor at a time. A failed test is
-run once more alone, since a busy machine can delay a process for longer than a test waits. The last lines
-name the tests that passed then (`second try: NAME`) and give the reasons for skipped tests (`left out: REASON
-(N tests)`).
+Each class of tests runs in a process of its own, at most one for each processor at a time. Failed tests are
+run once more at the end, one after another, since a busy machine can delay a process for longer than a test
+waits. If all pass then, the last lines name them (`second try: NAME`). They also give the reasons for skipped
+tests (`left out: REASON (N tests)`).
 """
 
 import collections
@@ -28,7 +28,7 @@ def failed(result):
 
 
 def passes_again(names):
-    """Runs tests once more. Returns True if they pass."""
+    """Runs tests once more. Returns True if they pass, and False if there are none."""
     if not names:
         return False
     suite = unittest.defaultTestLoader.loadTestsFromNames(names)

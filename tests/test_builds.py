@@ -69,7 +69,8 @@ class Place:
         os.utime(self.path("crates.txt"), (date, date))
 
     def run(self, *words, rt="bin", faulty="", typed=""):
-        """Returns the exit status of a script, and its calls of rt."""
+        """Runs a script. Returns its exit status, its output, its errors, and the lines of the calls of rt.
+        """
         self.write("calls", "")
         done = subprocess.run([sys.executable, *words] if words[0] == "./build" else words, cwd=self.folder,
                               env=self.variables(rt, faulty), input=typed, capture_output=True, text=True,
@@ -108,8 +109,8 @@ class BuildsTest(RowTest):
         super().setUp()
         self.place = Place(self.folder)
 
-    # Calls of rt: the crate, its kind, the crates in its crates.txt, the crates below it, its files, the
-    # built files of the crates below, and the arguments.
+    # The line of a call of rt: the crate, the arguments without --jobs, the crates in its crates.txt, the
+    # crates that are built already, the files in its src and in its out, and the standard input.
     LOW = "low|lib |low||lib.rt||"
     UPPER = "upper|lib |left low right upper|left low right|lib.rt||"
     CSID = "csid|run |csid left low right upper|left low right upper|main.rt||a call"
@@ -153,7 +154,7 @@ class BuildsTest(RowTest):
         self.assertEqual((status, out, error.split()[:2], calls), (2, "", ["usage:", "./build"], []))
 
     def test_gate_proves_all_without_a_crate(self):
-        """Its progress is shown."""
+        """The output of the gate goes to standard error."""
         status, out, error, calls = self.place.run("./build")
         self.assertEqual((status, out), (0, "crates/csid/out/csid\ncrates/csictl/out/csictl\n"))
         self.assertEqual((error.splitlines()[:1], calls), (["4 passed, 0 failed"], ["ci"]))
@@ -187,7 +188,7 @@ class BuildsTest(RowTest):
                     self.check("how it is tried", calls[0].split("|")[:2], ["csid", words])
 
     def test_probe(self):
-        """Without words ./run shows the call and the reply."""
+        """Without arguments ./run shows the call and the reply."""
         pathlib.Path(self.place.path("crates/csid/stdin")).write_bytes(PROBE)
         for reply, wanted in REPLIES:
             self.place.build("#!/bin/sh\ncmp - crates/csid/stdin && printf '%s'\n" % reply)

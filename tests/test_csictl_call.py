@@ -55,7 +55,7 @@ PROBE = call(IDENTITY + "Probe", "")
 
 class CallTest(CsictlTest):
     def call(self, path, *words, **how):
-        """Returns the output of csictl for a call to a socket."""
+        """Makes a call to a socket by csictl. Returns the output, the errors and the status."""
         return text(run([self.csictl, "call", "--socket", path, "--method", *words], input=b"", **how))
 
     def serve(self, *words):
@@ -74,7 +74,7 @@ class CallTest(CsictlTest):
 
 
 class CsidCallsTest(CallTest):
-    """Calls of csid."""
+    """csictl calls csid at a socket."""
 
     def setUp(self):
         super().setUp()
@@ -116,7 +116,7 @@ class CsidCallsTest(CallTest):
         self.assertEqual(came, (None, Line("csictl: standard output: "), 5))
 
     def test_server_ends_after_its_connections(self):
-        """Then no program listens."""
+        """After the last connection no program listens at the socket."""
         self.server.kill()
         self.server = self.serve("--connections", "2")
         for _ in range(2):
@@ -163,8 +163,8 @@ class SpoiledConnectionTest(CallTest):
         self.check_served("a read of a connection failed")
 
     def test_next_peer_waits_while_one_reads_no_reply(self):
-        """A peer sends calls until csid can write no more replies. The next peer is answered when the first
-        one has gone."""
+        """A peer sends calls until csid can write no more replies. The next peer is answered after this peer
+        has gone."""
         with self.server.connect() as peer:
             peer.settimeout(0.5)
             with contextlib.suppress(TimeoutError):
@@ -189,8 +189,8 @@ class PeerTest(CallTest):
     """Servers that answer in another way than csid."""
 
     def ask(self, serve):
-        """Returns the output of csictl for a call that a function answers. The function gets the connection.
-        PATH is the socket."""
+        """Makes a call by csictl that a function answers, and returns the output, the errors and the status.
+        The function gets the connection. In the errors, PATH is the path of the socket."""
         listener, path = self.listen(1)
 
         def answer():
@@ -274,10 +274,12 @@ IN_RUN = 'mount -t tmpfs none /run && mkdir /run/csid && %s && exec %s "$@"'
 
 
 class PlaceTest(CallTest):
-    """Without --socket the environment names the socket, and otherwise it is at the path of the units."""
+    """Without --socket the environment names the socket, and otherwise csictl looks for it at the paths of
+    the units."""
 
     def probe(self, *before, program=None, **variables):
-        """Returns the output of csictl for a Probe, possibly started by another command."""
+        """Makes a Probe by csictl, which another command may start. Returns the output, the errors and the
+        status."""
         rest = {name: value for name, value in os.environ.items() if name != "CSID_SOCKET"}
         words = [*before, program or self.csictl, "call", "--method", "Probe"]
         return text(run(words, input=b"", env={**rest, **variables}))
@@ -315,7 +317,8 @@ class PlaceTest(CallTest):
                 self.assertEqual(self.probe(*self.in_run(made), CSID_SOCKET=variable), wanted)
 
     def test_place_that_may_not_be_looked_into_is_taken(self):
-        """This user cannot see if it exists, so connecting reports why it fails."""
+        """The user `nobody` cannot see if the control socket exists, so connecting to it reports why it
+        fails."""
         if os.geteuid() != 0 or not shutil.which("setpriv"):
             self.skipTest("the user nobody cannot be taken here")
         program, _ = copy_for_nobody(self.csictl, self.folder)

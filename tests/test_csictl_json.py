@@ -37,7 +37,7 @@ ROWS = tables("csictl_json", globals())
 
 class JsonTest(CsictlTest):
     def call_json(self, method, reply, **streams):
-        """Returns the output of csictl for this reply."""
+        """Makes a call by csictl that gets this reply. Returns the output, the errors and the status."""
         peer = Peer(self.folder, [reply])
         words = ["call", "--json", "--socket", peer.path, "--method", method]
         came = run([self.csictl, *words], input=b"", **streams)
@@ -64,7 +64,8 @@ class JsonTest(CsictlTest):
 
 class WalkTest(CsictlTest):
     def walk(self, connections, *words):
-        """Returns the output of csictl, with PATH for the socket, and the calls of each connection."""
+        """Returns the output, the errors and the status of csictl, with PATH for the socket, and the calls of
+        each connection."""
         pages = Pages(self.folder, connections)
         words = ["call", "--all", "--socket", pages.path, "--method", "ListVolumes", *words]
         out, error, status = text(run([self.csictl, *words], input=b""))
@@ -77,8 +78,8 @@ class WalkTest(CsictlTest):
         self.assertEqual(came, (out, error, status))
         self.assertEqual(asked, asked_of(connections))
 
-    # With the six bytes before it the first token makes a message of 1,048,576 bytes, the most that a frame
-    # holds. The second one is a byte longer.
+    # In the first test, the token and the six bytes before it are a message of 1,048,576 bytes, the most that
+    # a frame holds. In the second test the token is a byte longer.
 
     def test_longest_token_is_sent(self):
         token = "12faff3f" + "61" * 1048570

@@ -30,8 +30,8 @@ def pairs(number, of):
 
 
 def entry(name, size, topologies=(), nodes=(), **context):
-    """Returns an entry of ListVolumes in hexadecimal (docs/PROTOCOL.md, "Messages"). A topology is a list of
-    pairs."""
+    """Returns an entry of ListVolumes in hexadecimal (docs/PROTOCOL.md, "Messages"). A topology is a
+    dictionary of segments."""
     volume = b"\x08" + varint(size % (1 << 64)) + part(2, name.encode()) + pairs(3, context)
     volume += b"".join(part(5, pairs(1, segments)) for segments in topologies)
     return part(1, part(1, volume) + part(2, b"".join(part(1, it.encode()) for it in nodes))).hex()
@@ -149,7 +149,7 @@ BLOCK = "1a060a001a020801"
 CONTEXT = ok("0a110a08726561646f6e6c79120566616c7365")
 
 
-# The calls of a removal, and of the page that begins with the volume.
+# The call that deletes vol-1, and the page with vol-1 while it is published to n1.
 DELETE = call(CONTROLLER + "DeleteVolume", ID)
 AT_N1 = ok(entry("vol-1", GIB, [], ["n1"]))
 
@@ -167,7 +167,7 @@ ROWS = tables("csictl_people", globals())
 
 
 class SlowPages(Pages):
-    """A server that needs a while for each page."""
+    """A server that needs 1.6 seconds for each page."""
 
     def play(self, peer, part):
         with peer, peer.makefile("rb") as calls:
@@ -180,7 +180,7 @@ class SlowPages(Pages):
 
 
 class AskTest(CsictlTest):
-    """A test that runs csictl over a socket. A shell splits the line into words."""
+    """A test that runs csictl over a socket. The line is split into words as a shell does it."""
 
     def ask(self, path, line):
         return text(run([self.csictl, *shlex.split(line), "--socket", path], input=b""))
@@ -236,7 +236,7 @@ class PeopleTest(AskTest):
         self.compare("%d bytes" % size, "pools", pages, asked, out, "", 0)
 
     def test_each_page_has_the_time_of_the_option(self):
-        """This also holds over a connection that is kept."""
+        """Both pages come over one connection. Together they take longer than the option says."""
         pages = SlowPages(self.folder, [[ok(THREE[0] + NEXT), ok(THREE[1] + THREE[2])]])
         self.check("two slow pages", self.ask(pages.path, "volumes --timeout 3"), (VOLUMES, "", 0))
         self.check("what was asked", len(pages.end()[0]), 2)
@@ -355,7 +355,8 @@ class RemovalTest(AskTest):
         self.removed(name, "delete vol-1 --tries 2", connections, "deleted vol-1\n", said, 0)
 
     def over_volumes(self, *rows):
-        """Rows over csid with two volumes, the first published to n1. The third was deleted."""
+        """Compares rows over a csid with two volumes, the first published to n1. A third volume was deleted.
+        """
         server = Server(self.csid, os.path.join(self.folder, "p.sock"))
         for name in ["pvc-7", "pvc-8", "pvc-9"]:
             self.ask(server.path, "create %s --size 1Mi --pool-topology zone=a" % name)
@@ -381,5 +382,5 @@ class RemovalTest(AskTest):
                           ("call --method ControllerUnpublishVolume --volume vol-2", "0 OK -\n", "", 0))
 
     def test_volume_that_is_looked_for_by_its_name(self):
-        """`csictl volume` shows the form of ids."""
+        """For a name in place of an id, `csictl volume` shows the form of ids."""
         self.over_volumes(("volume pvc-7", "", "csictl: pvc-7: " + NO_FORM, 1))

@@ -18,7 +18,8 @@ ROWS = tables("csictl_show", globals())
 
 
 def left_open(words, given):
-    """Returns the output for an input that stays open after these bytes."""
+    """Runs a command over an input that stays open after these bytes. Returns the output, the errors and the
+    status."""
     reading, writing = os.pipe()
     try:
         os.write(writing, given)

@@ -1,4 +1,4 @@
-"""`csictl vectors`."""
+"""`csictl vectors`: its line for each vector of a file, and files that it refuses."""
 
 import os
 

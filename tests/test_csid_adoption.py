@@ -15,8 +15,8 @@ from tests.support.tables import (A, BESIDE, BLOCK_CAPS, BYTES, CAP, CAPS, FIRST
 from tests.vectors.rows import Plain
 
 
-# All rules are broken at once, and fixed in order. For each rule: how to break it, how to fix it, and the
-# line before it is fixed.
+# All rules are broken at once, and then fixed in this order. For each rule: how to break it, how to fix it,
+# and the line before it is fixed.
 GOOD = volume(1) + volume(2, "'b'") + volume(3, "'c'")
 TURNS = [
     (volume(10, "'k'", caps="'caps'"), "DELETE FROM volumes WHERE number = 10", volume_fault(10, KIND)),
@@ -50,7 +50,8 @@ EXPLAINED = dict(ROWS["EXPLAINED"])
 
 
 def explained(name, line):
-    """Returns the lines before the line of a row, if any."""
+    """Returns the text that `csid --check-tables` prints in the line before the refusal, or None without such
+    a line."""
     is_of_a = line.startswith("volume 1") and KIND not in line
     return EXPLAINED.get(name, BROKEN_A if is_of_a else None)
 
@@ -79,7 +80,7 @@ class AdoptionTest(CsidTest):
             self.assertEqual(self.tables.run(frame(PROBE)), self.tables.says(line))
 
     def test_first_rule_that_is_broken_is_reported(self):
-        """The rows break all rules. They are fixed in order."""
+        """The rows break all rules. The rules are then fixed, one after another."""
         rows = "SELECT * FROM volumes", "SELECT rowid, * FROM attachments"
         self.tables.new().script(GOOD + next_is(50) + "".join(spoil for spoil, _, _ in TURNS))
         before = list(map(self.tables.ask, rows))
@@ -131,7 +132,8 @@ BLOCK_MODE, EXT4_MODE = "1a060a001a0208%02x", "1a0c12060a04657874341a0208%02x"
 
 
 class StoredTest(CsidTest):
-    """Files of earlier releases are adopted. They then have format 2, and no row of a volume changes."""
+    """Files of earlier releases are adopted. After that a file has format 2, and no row of a volume has
+    changed."""
 
     def open_stored(self, name):
         self.tables = Tables(self.csid, self.folder, name)
@@ -145,8 +147,8 @@ class StoredTest(CsidTest):
 
 class ModesTest(StoredTest):
     """A file of a csid without the modes 6 and 7: its volumes with mode 1 can be published with them.
-    tests/stored/modes-1-to-5.db has volumes of 1 MiB in p1, and two attached ones: 'readers' with mode 3 and
-    'attached' with mode 1."""
+    tests/stored/modes-1-to-5.db has volumes of 1 MiB in p1. Two of them are attached: 'readers' with mode 3
+    and 'attached' with mode 1."""
 
     CAPS = [
         ("block", BLOCK_MODE % 1),
@@ -192,7 +194,7 @@ class ModesTest(StoredTest):
 
 
 def part(number, content):
-    """Returns a field of less than 128 bytes."""
+    """Returns a field of wire type 2 with less than 128 bytes."""
     return bytes([number * 8 + 2, len(content)]) + content
 
 

@@ -40,7 +40,8 @@ class PlayedStore(change_stores.ChangeStore):
 
     @property
     def leads(self):
-        """Returns True if it leads: the next value of the list each time, and then the last one again."""
+        """True if the store leads: the next value of `turns`, or the value that was set if `turns` is empty.
+        """
         return self.turns.pop(0) if self.turns else self.is_leading
 
     @leads.setter
@@ -90,7 +91,7 @@ class Server(Served):
         return super().lines().replace(self.log_path, "LOG")
 
     def end(self):
-        """Ends csid and the change store. Returns what csid wrote."""
+        """Ends csid and the change store. Returns the lines of csid."""
         if os.path.exists(self.log_path):
             self.process.kill()
             self.process.wait()
@@ -140,7 +141,7 @@ class DeafStore(PlayedStore):
 
 
 class DrippingStore(DeafStore):
-    """A change store that answers the same, and then sends a reply at one byte each half second."""
+    """A change store that answers the same calls, and then sends a reply at one byte each half second."""
 
     def end_silently(self, peer):
         for byte in page(*[volume(it, "v%d" % it) for it in range(1, 20)]):
@@ -150,7 +151,8 @@ class DrippingStore(DeafStore):
 
 
 def stalled(csid, folder, log, call):
-    """Makes a call whose change a store does not answer. Returns the result, and the time that it takes."""
+    """Makes a call whose change a store does not answer. Returns the reply, True if it took 29 to 60 seconds,
+    and the lines of csid."""
     os.mkdir(folder)
     server = Server(csid, folder, page(meta(1)), log=log)
     begin = time.monotonic()
@@ -165,7 +167,8 @@ def stalled(csid, folder, log, call):
 
 
 def nobody(csid, folder):
-    """csid over a socket that does not exist: it continues, and answers no call."""
+    """Runs csid over a change store whose socket does not exist, and makes a Probe. Returns the bytes that
+    come back, and the exit status of csid."""
     path = os.path.join(folder, "csid.sock")
     process = subprocess.Popen([csid, "serve", "--socket", path, "--log", os.path.join(folder, "none"),
                                 "--connections", "1"], stdin=subprocess.DEVNULL, stdout=subprocess.DEVNULL,
@@ -278,7 +281,7 @@ class RefusedStartTest(PlayedTest):
 
 
 class ChangeTest(PlayedTest):
-    """How csid sends a change to the change store, and what it replies if that fails."""
+    """How csid sends a change to the change store, and what csid replies if the change store fails."""
 
     @each(ROWS["CHANGES"])
     def test_change_is_sent_once_and_answered_after_the_reply_of_the_store(self, name, rows, calls, wanted):
@@ -328,11 +331,12 @@ class LeadTest(PlayedTest):
     """A change store that does not lead any more, or has gone. csid answers no later call from memory."""
 
     def serve_two(self):
-        """Starts csid over a store that has another volume when it is read again."""
+        """Returns a csid over a store that has another volume when it is read again."""
         return self.serve(page(meta(2), volume(1, "a")), page(meta(3), volume(2, "b")))
 
     def ask_after(self, server, event, *calls):
-        """Returns the reply to a Probe, and the result of each call after an event."""
+        """Yields the bytes that answer each call, if an event happens between a Probe and these calls. The
+        last bytes are all up to the end of the connection."""
         with server.connect() as peer:
             peer.sendall(v.probe())
             self.assertEqual(peer.recv(1 << 16), v.READY)
@@ -359,7 +363,7 @@ class LeadTest(PlayedTest):
         self.assertEqual([*came], [MADE, b""])
 
     def test_store_is_asked_before_each_reply(self):
-        """It is asked once more at the start of a connection."""
+        """The store is asked once more at the start of a connection."""
         server = self.serve(page(meta(2), volume(1, "a")))
         server.log.turns, server.log.leads = [True, True, False], True
         self.assertEqual(server.ask(v.probe(), v.listing(), v.probe()), v.READY)
@@ -377,9 +381,9 @@ class LeadTest(PlayedTest):
 class SlowReaderTest(CsidTest):
     """A client of `csid serve --log` that reads late, so csid waits in the middle of a reply."""
 
-    # They fit on one page.
+    # These volumes fit on one page of ListVolumes.
     VOLUMES = range(1, 101)
-    # This many pages of 4,300 bytes are more than the buffer of a socket.
+    # These pages have 4,300 bytes each. All together do not fit into the buffer of a socket.
     LISTINGS = 200
 
     def setUp(self):
@@ -399,7 +403,8 @@ class SlowReaderTest(CsidTest):
         return store
 
     def read_late(self, calls, count):
-        """Makes calls, and reads the first bytes of the replies only after three seconds."""
+        """Makes calls, and reads the replies only after three seconds. Reading must then take less than five
+        seconds. Returns the replies."""
         with self.server.connect() as peer:
             threading.Thread(target=peer.sendall, args=(calls,), daemon=True).start()
             time.sleep(3)
@@ -447,7 +452,7 @@ def limit_memory(csid, size):
 class ShortMemoryTest(CsidTest):
     """The change store makes a change, and `csid serve --log` has no memory for it."""
 
-    # The greatest number of entries in a map. In memory they take about 90 KiB.
+    # A map with the greatest number of entries. In memory it takes about 90 KiB.
     ENTRIES = [("%03x" % it, "v") for it in range(1024)]
 
     def setUp(self):
@@ -469,7 +474,7 @@ class ShortMemoryTest(CsidTest):
         return peer.recv(1 << 16)
 
     def fill(self, peer):
-        """Creates volumes until csid needs more memory for one. So it has no free memory left."""
+        """Creates volumes until csid needs more memory for one. Then csid has no free memory left."""
         csid = self.server.process.pid
         entries = [v.mutable(*it) for it in self.ENTRIES[:100]]
         taken = status_of(csid, "VmData")
@@ -480,7 +485,8 @@ class ShortMemoryTest(CsidTest):
         self.fail("memory is free")
 
     def modify(self):
-        """Changes the mutable parameters of the first volume, then lists volumes. Returns both replies."""
+        """Changes the mutable parameters of the first volume, while csid has no memory for the change, and
+        then lists volumes. Returns both replies."""
         csid = self.server.process.pid
         with self.server.connect() as peer:
             self.fill(peer)

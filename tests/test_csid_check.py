@@ -1,4 +1,4 @@
-"""`csid --check-config` and `csid --check-tables`."""
+"""`csid --check-config` and `csid --check-tables`: what they print, and that they change nothing."""
 
 import contextlib
 import os
@@ -61,7 +61,7 @@ class CheckTablesTest(CsidTest):
         os.symlink(self.tables.path, self.linked.path)
 
     def check_kept(self, tables, *words, **how):
-        """Checks tables, which must not change. Returns the output."""
+        """Checks tables, which must not change. Returns the output, the errors and the status."""
         kept = self.tables.files()
         came = tables.check(*words, **how)
         self.assertEqual(self.tables.files(), kept)
@@ -160,8 +160,8 @@ class ChangingFileTest(CsidTest):
     """A file changes while `csid --check-tables` copies it."""
 
     def check_changing(self, copies):
-        """Returns the tables, and the output of a check whose copies each find first one content and then
-        another."""
+        """Checks a file that changes. Each copy reads the file twice: `copies` has for each copy the numbers
+        of the two contents. Returns the tables, and the result of the check."""
         contents = []
         for rows in A, A + volume(2, "'b'"):
             contents.append(pathlib.Path(self.tables.new().script(rows).path).read_bytes())

@@ -1,4 +1,4 @@
-"""Configurations of csid."""
+"""Configurations that csid uses or refuses, and unknown keys in them."""
 
 import os
 
@@ -52,7 +52,8 @@ class ConfigTest(CsidTest):
 
 
 class UnknownKeysTest(CsidTest):
-    """A configuration with unknown keys."""
+    """A configuration with unknown keys is used. `csid serve` and `csid --check-tables` name these keys, and
+    `csid pipe` does not."""
 
     CONTENT = sample((b"[[pool]]", b'segment = 1\n\n[[nodes]]\nid = "n3"\n\n[[pool]]'),
                      (b"bytes = 4194304", b'bytes = 4194304\nsegment = 3\n"a\\nb" = 1'),

@@ -15,7 +15,7 @@ HEADER = 32
 
 
 class Moment:
-    """The bytes of a file, of its WAL, and the tables in them, at one moment."""
+    """The bytes of a file and of its WAL at one moment, and the number of volumes in them."""
 
     def __init__(self, path, volumes):
         self.database = pathlib.Path(path).read_bytes()
@@ -72,7 +72,8 @@ class CopyTest(CsidTest):
         ]
 
     def count(self, name, *copies):
-        """Returns the number of volumes in the first of these copies that csid accepts."""
+        """Checks a file whose reads give these copies, one after another, until csid accepts a copy. Returns
+        the output, the errors and the status."""
         tables = Tables(self.csid, self.folder, name + ".db")
         for ending in "", "-journal", "-wal":
             os.mkfifo(tables.path + ending)

@@ -83,7 +83,7 @@ class CopyTablesTest(CsidTest):
         writer = sqlite3.connect(self.tables.path, isolation_level=None)
         writer.execute("PRAGMA wal_autocheckpoint = 0")
         writer.executescript("BEGIN; %s COMMIT;" % A)
-        # The transaction is open.
+        # This transaction stays open, so its volume is not copied.
         writer.executescript("BEGIN; %s %s" % (volume(2, "'b'"), next_is(10)))
         self.assertEqual(self.copy(), (ONE, "", 0))
         writer.close()

@@ -35,7 +35,8 @@ class DiskTest(CsidTest):
     """csid over tables in the folder of the test."""
 
     def begin(self, tables, call, answer):
-        """Starts csid, and makes one call. csid then waits for another one."""
+        """Starts csid, makes a call and checks its reply. Returns the process, which waits for further calls.
+        """
         streams = dict.fromkeys(("stdin", "stdout", "stderr"), subprocess.PIPE)
         process = subprocess.Popen(tables.command, bufsize=0, **streams)
         process.stdin.write(call)
@@ -43,20 +44,21 @@ class DiskTest(CsidTest):
         return process
 
     def finish(self, process, calls):
-        """Makes further calls and ends csid. Returns the result."""
+        """Makes further calls and ends csid. Returns the replies, the lines on standard error and the status.
+        """
         out, error = process.communicate(calls, timeout=SECONDS)
         return out, error.decode(), process.returncode
 
     def configure_much(self):
-        """Writes a configuration with a large pool."""
+        """Writes a configuration with a large pool. Returns its path."""
         return self.configure(sample((b"10485760", b"%d" % (20000 * MIB))))
 
 
 class LockTest(DiskTest):
-    """Either one csid or one sqlite3 has the file."""
+    """Only one csid or one sqlite3 at a time has the file."""
 
     def test_file_of_csid_is_locked(self):
-        """For another csid, and for sqlite3."""
+        """It is locked for another csid and for sqlite3."""
         first = self.begin(self.tables, CREATE, reply(VOLUME_1))
         self.assertEqual(self.tables.run(frame(PROBE)), self.tables.says(LOCKED))
         with contextlib.closing(sqlite3.connect(self.tables.path, timeout=0)) as connection:
@@ -198,7 +200,8 @@ class FullDiskTest(DiskTest):
         self.assertEqual(self.tables.ask("PRAGMA integrity_check"), [("ok",)])
 
     def refuse_on_full_disk(self, tables, first):
-        """The calls of one run: a create, after which the disk is full, and a create that is refused."""
+        """Makes the calls of one run: a create, after which the disk is full, and a create that is refused.
+        """
         process = self.begin(tables, controller("CreateVolume", first), reply(VOLUME_1))
         filler = fill(self.disk)
         # The WAL has 256 KiB of zeros in advance, which is too little for 3,000 file systems.
@@ -213,8 +216,8 @@ class FullDiskTest(DiskTest):
 
     @each([("small", CREATE_A, [b"vol-1"]), ("large", CREATE_A + mounts(100), [])])
     def test_both_files_have_what_was_committed_after_a_refusal(self, name, first, alone):
-        """The file alone has it, unless the disk has no room for the pages that it lacks. Then it may have
-        some of the pages, and is refused."""
+        """The file without its WAL also has it, unless the disk has no room for the pages that the file
+        lacks. Then the file may have some of the pages, and is refused."""
         tables = Tables(self.csid, self.disk, name + ".db").new()
         self.refuse_on_full_disk(tables, first)
         for kind, ends, wanted in [("both", ["", "-wal"], [b"vol-1"]), ("alone", [""], alone)]:
@@ -225,7 +228,7 @@ class FullDiskTest(DiskTest):
                 self.assertEqual(self.listed(copy), wanted)
 
     def test_server_goes_on_and_serves_changes_once_there_is_room(self):
-        """csid needs no restart, and writes a line for each refused connection."""
+        """csid needs no restart, and writes two lines for each connection with a refused change."""
         server = self.serve(tables=self.tables.path)
         begun = server.line(NEW) + server.has(0, 0, 1)
         down = server.line("the database refused a call: " + FULL) + server.line(DOWN)
@@ -290,7 +293,7 @@ class RefusedReadTest(DiskTest):
     """Pages of a file are overwritten while a connection has it open."""
 
     def check_reads(self, wanted, said, *words):
-        """Reads of a volume behind the overwritten page have these replies, and csid writes these lines."""
+        """Reads of a volume on an overwritten page have these replies, and csid writes these lines."""
         config = self.configure_much()
         listing = controller("ListVolumes", bytes.fromhex("0801 1204") + b"2000")
         params = "UPDATE volumes SET params = %s;" % cell(pairs(4, b"k", 4090))
@@ -323,7 +326,8 @@ class RefusedCopyTest(DiskTest):
     """A read fails while the volumes are copied into memory for a connection."""
 
     def serve_once(self, *injected):
-        """Runs a csid that serves one connection. Returns its reads, its replies and its lines."""
+        """Runs a csid that serves one connection with a Probe. Returns the number of its reads, its reply and
+        its lines. Skips the test if strace cannot be run."""
         trace, traced = (os.path.join(self.folder, name) for name in ("trace", "traced"))
         command = ["strace", "-f", "-o", trace, "-e", "trace=pread64", *injected, self.csid]
         write(traced, b'#!/bin/sh\nexec %s "$@"\n' % shlex.join(command).encode())
@@ -366,8 +370,8 @@ class SyncTest(DiskTest):
         return re.findall(r"(\w+)\((\d+)<([^>]*)>", read(self.trace).decode())
 
     def test_reply_is_written_after_a_sync_of_its_commit(self):
-        """The last step of the WAL before a reply is a sync after a write. Later replies need only the sync.
-        """
+        """The last step of the WAL before a reply is a sync after a write. Before the second and the third
+        reply it is the only sync."""
         creates = [CREATE_A.replace(b"\x0a\x01a", b"\x0a\x01" + name) for name in (b"a", b"b", b"c")]
         answers = [reply(VOLUME_1.replace(b"vol-1", b"vol-%d" % number)) for number in (1, 2, 3)]
         calls = b"".join(controller("CreateVolume", it) for it in creates)

@@ -16,7 +16,7 @@ from tests.support.tables import BLOCK_CAPS, MANY, MIB, SHORT_ENTRIES, next_is
 
 def own_group():
     """Returns the folder of this process's control group for memory, and the name of its file with the limit.
-    """
+    Skips the test if no group limits memory."""
     with open("/proc/self/cgroup", encoding="ascii") as lines:
         groups = dict(line.rstrip("\n").split(":", 2)[1:] for line in lines)
     for root, controllers, name in (("/sys/fs/cgroup/memory", "memory", "memory.limit_in_bytes"),
@@ -36,8 +36,8 @@ def write_limit(path, limit):
 
 @contextlib.contextmanager
 def memory_group(limit):
-    """Makes a control group with a limit. Returns the function that moves a process into it, or skips the
-    test."""
+    """Makes a control group with a limit until the block ends. Yields the function that moves the calling
+    process into it. Skips the test if that is not possible."""
     parent, name = own_group()
     folder = os.path.join(parent, "csid-test-%d" % os.getpid())
     try:

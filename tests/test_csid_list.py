@@ -1,4 +1,4 @@
-"""`csid --list-tables`."""
+"""`csid --list-tables`: its columns, its JSON, and tables that it refuses."""
 
 import itertools
 import json
@@ -43,7 +43,7 @@ SPACES = (volume(1, "'a b'", MIB, "'p 1'", cell(ODD), cell(ODD_MAPS))
           + next_is(2))
 TABLE, ESCAPED, EMPTY = [fixture("listing/%s.txt" % name) for name in ("table", "escaped", "empty")]
 DOCUMENT = json.loads(fixture("listing/document.json"))
-# The place if a listing fails before its first row.
+# The place in the line if a listing fails before its first row.
 FIRST = "from the first volume on"
 
 
@@ -102,7 +102,7 @@ class ListTest(ListedTest):
         self.check("of the pool", found["pools"], [{"name": "p1", "volumes": 4, "bytes": most}])
         self.check("of the node", found["nodes"], [{"id": "n1", "volumes": 4, "bytes": most}])
         self.check("in columns", self.listed(tables)[0].count(b"4        %d B\n" % most), 2)
-        # This is more than one page.
+        # 1,001 volumes are more than one page.
         tables.new().script(MANY % (1001, BLOCK_CAPS) + "UPDATE volumes SET number = number + %d" % (1 << 62))
         wanted = ["vol-%d" % ((1 << 62) + number) for number in range(1, 1002)]
         self.check("1,001 ids", self.ids(tables), wanted)
@@ -156,7 +156,7 @@ class ListTest(ListedTest):
     def test_reader_that_goes_away(self):
         """Nothing is reported, and the status is 0."""
         tables = Tables(self.csid, self.folder).new()
-        # This is more than is written at once.
+        # The list of 2,000 volumes is longer than one write.
         tables.script(MANY % (2000, BLOCK_CAPS) + next_is(2001))
         for words in [], ["--json"]:
             read, write_end = os.pipe()
@@ -263,8 +263,8 @@ class ServedListTest(ListedTest):
         self.addCleanup(self.has_ended.set)
 
     def change(self):
-        """Volumes are made, published at n1, unpublished and deleted, one by one. Each tenth volume stays. So
-        at most one other volume exists, and it is the last one."""
+        """Volumes are made, published at n1, unpublished and deleted, one after another. Each tenth volume
+        stays. So at most one volume besides these exists, and it has the greatest number."""
         for number in itertools.count(1):
             volume_id = text(1, b"vol-%d" % number)
             calls = [("CreateVolume", text(1, b"v%d" % number) + BLOCK)]
@@ -280,7 +280,8 @@ class ServedListTest(ListedTest):
                 self.server.stdout.read(int.from_bytes(head[4:8], "big"))
 
     def check_moment(self, found):
-        """A listing shows one moment. Returns the temporary volume in it, if any."""
+        """A listing shows one moment. Returns the greatest number in it, and how many temporary and how many
+        attached volumes it has."""
         numbers = [int(one["id"][4:]) for one in found["volumes"]]
         last = max(numbers, default=0)
         others = [n for n in numbers if n % 10]

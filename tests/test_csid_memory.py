@@ -1,4 +1,4 @@
-"""csid with little memory."""
+"""csid with little memory: --low-memory, and calls that are refused so that the next opening has memory."""
 
 
 from tests.vectors import messages as v
@@ -23,7 +23,7 @@ class LowMemoryTest(CsidTest):
         self.low = self.tables.command + ["--low-memory"]
 
     def fill(self):
-        """Makes tables with 1,000 volumes, and a configuration with room for them."""
+        """Makes tables with 1,000 volumes, and a configuration with room for these volumes."""
         self.configure(LARGE_POOL)
         params = "UPDATE volumes SET params = x'%s';" % SHORT_ENTRIES.hex()
         self.tables.new().script(MANY % (1000, BLOCK_CAPS) + params + next_is(1001))
@@ -59,7 +59,7 @@ class LowMemoryTest(CsidTest):
         self.assertEqual(self.tables.ask("SELECT count(*) FROM volumes"), [(999,)])
 
     def test_row_that_there_is_no_memory_to_judge_is_reported(self):
-        """The file can be opened."""
+        """There is memory to open the file, but not for the row."""
         self.tables.new().script(volume(1, caps=LARGE_CAPS) + NEXT_9)
         came = self.tables.run(frame(PROBE), preexec_fn=little_memory)
         self.assertEqual(came, (b"", NO_MEMORY, 6))
@@ -67,7 +67,7 @@ class LowMemoryTest(CsidTest):
 
 class MemoryTest(CsidTest):
     def test_lack_of_memory_for_a_copy_is_no_failed_disk(self):
-        """The copy of the tables has its own files."""
+        """With some of the limits the lack of memory is reported, and with none of them a failed disk."""
         tables = self.tables.new()
         tables.script(volume(1, "printf('%.*c', 200000, 'x')") + next_is(2))
         for option in "--check-tables", "--list-tables":
@@ -89,7 +89,7 @@ class MemoryTest(CsidTest):
         return [controller("DeleteVolume", b"\x0a" + bytes([len(name)]) + name) for name in names]
 
     def test_creates_are_refused_before_the_next_opening_has_no_memory(self):
-        """Deletes are allowed. They leave free pages, so the next connection has room for creates."""
+        """Deletes are allowed. They leave free pages, and so the next connection has room for creates."""
         config, most = self.configure(LARGE_POOL.replace(b"2147483648", b"%d" % (20_000 * MIB))), 6000
         for name, words in ("of the file", ["--low-memory"]), ("of memory", []):
             with self.subTest(reads=name):
@@ -113,7 +113,7 @@ class ReserveTest(CsidTest):
     NODES = ["n%02d" % it + "n" * 253 for it in range(64)]
 
     def serve_low(self, volumes, caps, size=9 * MIB):
-        """Starts csid over this many volumes, with little memory."""
+        """Returns a csid over this many volumes, with little memory."""
         nodes = ["[[node]]\nid = '%s'\nmax_volumes = 100000\n" % it for it in self.NODES]
         pool = LARGE_POOL.replace(b"2147483648", b"%d" % (100_000 * MIB))
         config = self.configure(pool + "".join(nodes).encode())

@@ -26,7 +26,7 @@ while True:
 
 PREEMPTED = "csid: a connection that kept another one waiting was closed\n"
 
-# More bytes of a call than a connection must send before it is served.
+# The first bytes of a long call. A connection is served before it has sent that much.
 PART = frame(PROBE, LONGEST)[:5000]
 
 # A call to send in two parts: its message is an unknown field of 6,003 bytes.
@@ -137,7 +137,7 @@ class PeersTest(CsidTest):
         self.assertTrue(wait(lambda: SLOW in self.server.lines()))
 
     def test_peer_that_waits_alone_may_send_a_call_slowly(self):
-        """No other one is ready, so a byte now and then is well for ten seconds."""
+        """No other peer is ready, so this peer may send a byte now and then for ten seconds."""
         peer = self.connect()
         call = frame(PROBE)
         for at in range(0, len(call), 4):
@@ -146,7 +146,7 @@ class PeersTest(CsidTest):
         self.assertEqual(peer.recv(4096), READY)
 
     def connect_alone(self):
-        """Starts another server, and makes the only connection to it."""
+        """Starts another server, and returns the only connection to it."""
         folder = os.path.join(self.folder, "alone")
         os.mkdir(folder)
         server = Server(self.csid, folder)

@@ -17,7 +17,8 @@ ROWS = tables("csid_pipe", globals())
 
 
 def by_turns(csid, pieces, expected):
-    """Sends pieces one by one. Reads the expected bytes after each piece."""
+    """Sends pieces one by one, and reads `expected` bytes after each piece. Returns the output, the errors
+    and the status."""
     process = subprocess.Popen([csid], stdin=subprocess.PIPE, stdout=subprocess.PIPE, stderr=subprocess.PIPE,
                                bufsize=0)
     out = b""
@@ -32,8 +33,8 @@ def by_turns(csid, pieces, expected):
 
 
 def without_waiting(csid, given):
-    """Runs csid over a pipe that has the bytes `given` and then no more. A read of the empty pipe does not
-    block, and does not find the end of the input, since the writer stays open."""
+    """Returns the result of csid over a pipe that has the bytes `given` and then no more. A read of the empty
+    pipe does not block, and does not find the end of the input, since the writer stays open."""
     read, write = os.pipe()
     os.set_blocking(read, False)
     os.write(write, given)

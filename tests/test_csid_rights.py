@@ -11,7 +11,7 @@ from tests.support.processes import SECONDS, run, write
 from tests.support.rows import CsidTest
 from tests.support.server import Server
 
-# Some of these calls do not exist on each processor.
+# Some of these calls are missing on some processors.
 CALLS = "trace=?open,openat,?creat,?chmod,fchmod,fchmodat,?fchmodat2,?chown,fchownat,bind,accept,accept4"
 
 # A file that is made, or whose mode is set: its path and its mode in octal.

@@ -62,7 +62,7 @@ class SurveyTest(ServeTest):
         self.assertEqual(server.end(), (begun, KILLED, True))
 
     def fill(self):
-        """Makes tables with two volumes. The first is attached."""
+        """Makes tables with two volumes, and returns them. The first volume is attached."""
         publish = controller("ControllerPublishVolume", VOL_1 + bytes.fromhex("12026e31") + BLOCK)
         tables = self.tables
         tables.run(controller("CreateVolume", CREATE_A) + publish + controller("CreateVolume", CREATE_B))
@@ -100,7 +100,7 @@ class SurveyTest(ServeTest):
         self.assertEqual(server.end(), (server.line(NO_DATABASE), KILLED, True))
 
     def test_no_tables_are_made_where_the_socket_is_taken(self):
-        """So a second server does not touch the file of the first."""
+        """A second server at the same socket does not touch the file of the first server."""
         path = os.path.join(self.folder, "csid.sock")
         write(path, b"")
         self.assertEqual(self.serve().end(), (line_of(path + ": a file exists there already"), 7, True))
@@ -243,8 +243,8 @@ class StayingPeersTest(ServeTest):
     PARTS = [frame(PROBE)[:size] for size in (0, 1, 2, 20, 28)]
 
     def hold(self, count):
-        """Starts a server with this many connections. They have sent parts of a call, of different lengths.
-        """
+        """Returns a server, and this many connections to it. Each connection has sent a part of a call. Five
+        lengths of parts alternate."""
         server = self.serve()
         return server, [self.connect(server, self.PARTS[it % len(self.PARTS)]) for it in range(count)]
 
@@ -365,7 +365,8 @@ class EndsTest(ServeTest):
         return self.server.lines()[len(self.begun) :]
 
     def check_counts(self, line, counts):
-        """The ends have a line, or are in a count."""
+        """Waits until all ended connections are reported, and compares how many have a line and how many are
+        in each count."""
         wait(lambda: sum(ended(self.new_lines(), line).values()) == sum(counts.values()))
         self.assertEqual(dict(ended(self.new_lines(), line)), counts)
 

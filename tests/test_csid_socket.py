@@ -15,7 +15,7 @@ from tests.support.processes import read, small_memory, write
 from tests.support.rows import CsictlTest, each
 
 
-# The reason if a socket cannot be made.
+# The reasons why a socket cannot be made.
 TAKEN = "a file exists there already"
 TOO_LONG = "path must be shorter than SUN_LEN"
 
@@ -28,7 +28,7 @@ def handles(count):
 
 
 def done(peer):
-    """Reads the rest of a connection whose calls were all answered. csid closes the file before the
+    """Returns the rest of a connection whose calls were all answered. csid closes the file before the
     connection."""
     peer.shutdown(socket.SHUT_WR)
     return peer.recv(4096)
@@ -55,7 +55,7 @@ PROBED = "0 OK 0a020801\nready true\n", "", 0
 
 
 class SocketTest(CsictlTest):
-    """csid at a socket."""
+    """A test that runs csid at sockets in its folder."""
 
     def path(self, name):
         return os.path.join(self.folder, name)
@@ -71,7 +71,7 @@ class TakenSocketTest(SocketTest):
     """Sockets that cannot be made: the status is 7, and the line has the path and the reason."""
 
     def refuse(self, path, *words):
-        """Returns the lines and the status of `csid serve`."""
+        """Returns the output, the lines and the status of a `csid serve` that ends at once."""
         command = [self.csid, "serve", "--socket", path, "--tables", self.path("taken.db"), *words]
         return text(run(command, input=b""))
 
@@ -112,7 +112,7 @@ class TakenSocketTest(SocketTest):
         self.assertEqual(server.end(), ("", 0))
 
     def test_no_tables_are_made_without_a_configuration(self):
-        """The configuration is judged before the socket is made, whose path is taken."""
+        """The socket's path is taken too, but the configuration is judged before the socket is made."""
         config = self.path("no.toml")
         write(self.path("a.sock"), b"mine")
         came = self.refuse(self.path("a.sock"), "--config", config)
@@ -124,15 +124,15 @@ class ScarceTest(SocketTest):
     """Servers with too few descriptors, with too little memory, or without a path for the tables."""
 
     def serve_two(self, limit):
-        """Starts a server of two connections with a limit. Returns the line if the tables cannot be opened.
-        """
+        """Starts a server of two connections with a limit. Returns the server, and its line about tables that
+        cannot be opened."""
         server = self.serve("a.sock", "--connections", "2", preexec_fn=limit)
         return server, "csid: %s: %s\n" % (server.tables, NO_FILE)
 
     @each([(4, False), (5, True)])
     def test_server_without_descriptors_for_its_socket_ends(self, count, is_made):
-        """A server needs standard input, output and error, the socket, and the set of waiting connections. A
-        further descriptor is enough for the file, but not for its WAL."""
+        """With four descriptors no file of tables is made. With five the file is made, but the tables cannot
+        be opened."""
         server, no_file = self.serve_two(handles(count))
         self.assertEqual(server.end(), (no_file + "csid: %s: %s\n" % (server.path, NO_HANDLE), 7))
         self.assertEqual(os.path.exists(server.tables), is_made)
@@ -274,7 +274,8 @@ class KeptTest(SocketTest):
         self.assertEqual(self.ask(method), ("", Line("csictl: " + self.server.path + ": "), 5))
 
     def connect(self):
-        """Opens the file in sqlite3, once csid has closed it after its reply."""
+        """Returns a connection of sqlite3 to the file. csid may close the file a moment after its last reply:
+        sqlite3 then waits for the lock."""
         connection = sqlite3.connect(self.file, isolation_level=None)
         self.addCleanup(connection.close)
         return connection

@@ -142,7 +142,7 @@ class FirstPageTest(CsidTest):
         self.check_made()
 
     def test_one_of_many_that_start_at_once_makes_the_file(self):
-        """The others report that it is in use."""
+        """Each of the others serves this file, too, or reports that it is locked."""
         streams = dict.fromkeys(("stdin", "stdout", "stderr"), subprocess.PIPE)
         made = READY, "", 0
         for _ in range(5):
@@ -159,7 +159,8 @@ class FirstPageTest(CsidTest):
 
 class OtherFilesTest(CsidTest):
     def probe(self, path, *words):
-        """Returns the output of `csid pipe` over the file at a path."""
+        """Runs `csid pipe` with a Probe over the file at a path. Returns the output, the errors and the
+        status."""
         command = [self.csid, "pipe", "--tables", path, *words]
         return run(command, input=frame(PROBE), cwd=self.folder)
 
@@ -224,7 +225,7 @@ class OtherFilesTest(CsidTest):
         self.assertEqual(os.listdir(self.folder), ["dangling.db"])
 
     def test_path_that_sqlite_takes_for_no_file_is_refused(self):
-        """The name of a database in memory, and a URI. No file is made."""
+        """The path is the name of a database in memory, or a URI. No file is made."""
         for path in ":memory:", "file:x.db":
             line = "csid: %s: csid needs the path of a file, and this is none for SQLite\n" % path
             for words in (["pipe", "--tables", path], ["pipe", "--tables", path, "--existing"],
@@ -447,11 +448,11 @@ class EmptiedTest(CsidTest):
                 peer.recv(1 << 16)
             server.end()
         self.file, self.log = [self.tables.files()["volumes.db" + ending] for ending in ("", "-wal")]
-        # The header of the WAL, and the first change.
+        # The WAL has its header and its first change in 568 bytes.
         self.assertGreater(len(self.log), 568)
 
     def put(self, file, log):
-        """Writes the file and its WAL. None means no file."""
+        """Writes the file and its WAL, or leaves one out if it is None. Returns the bytes of both by name."""
         self.tables.clear()
         for ending, content in ("", file), ("-wal", log):
             if content is not None:

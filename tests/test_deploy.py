@@ -16,8 +16,8 @@ from tests.support.deploy import (DEFAULTS, DIFFERENCES, ETCD_MANIFEST, ETCD_PRO
 from tests.support.processes import TOP
 from tests.support.rows import RowTest, each
 
-# For each unit that serves: the name in its lines, and the statuses that are a planned end, or must not lead
-# to a restart.
+# For each unit that serves: the name in its lines, the statuses that are a planned end, and the statuses that
+# must not lead to a restart.
 STATUSES = [
     ("csid.service", "csid", [], ["2 3"]),
     ("csid-front.service", "csid-front", ["1"], ["2"]),
@@ -316,7 +316,7 @@ class EtcdManifestTest(RowTest):
         self.assertEqual(affinity["requiredDuringSchedulingIgnoredDuringExecution"], [apart])
 
     def test_pod_is_ready_without_an_answer(self):
-        """Only its front is asked, and it answers while it stands by."""
+        """Only the front of a pod is asked, and it answers also while its csid does not serve."""
         for name, container in self.manifest.containers.items():
             asked = {"readinessProbe", "startupProbe"} & set(container)
             self.assertEqual(asked, {"readinessProbe"} if name == "front" else set(), name)
@@ -340,7 +340,7 @@ class EtcdManifestTest(RowTest):
 
     @each(["provisioner", "attacher"])
     def test_sidecars_are_those_of_the_other_manifest(self, name):
-        """They elect no leader."""
+        """The sidecars elect no leader."""
         args = self.manifest.containers[name]["args"]
         self.assertEqual([word for word in args if "election" in word], [])
         args = [word.replace("ownerref-level=2", "ownerref-level=1") for word in args]
@@ -569,7 +569,8 @@ class DeployTest(RowTest):
             self.check("its severity", rule["labels"]["severity"] in ("critical", "warning"), True)
 
     def test_memory_of_the_front(self):
-        """The front has the same memory limit in its unit, the job and the manifests, and Go knows it."""
+        """The front has the same memory limit and the same GOMEMLIMIT in its unit, the Nomad job and the
+        manifests."""
         unit, task = Unit(UNITS[1]), Nomad().tasks()["front"]
         mebibytes = int(re.fullmatch(r"(\d+)M", unit.all("MemoryMax")[0]).group(1))
         self.check("the limit of the Nomad job", re.findall(r"memory_max = (\d+)", task), [str(mebibytes)])

@@ -12,8 +12,8 @@ from tests.support.rows import RowTest, each
 ALERTS = os.path.join(DEPLOY, "alerts.yaml")
 # For each used share in percent, the alerts that must fire. At exactly 80 % no alert fires.
 SHARES = [(79, []), (80, []), (81, [80]), (90, [80]), (91, [80, 90])]
-# The alerts, each with the series of the used and the greatest value, and the label that distinguishes
-# several.
+# For each alert: its name, the series of the used and of the greatest value, and a label if there are several
+# such series.
 FULL = [
     ("Pool", "csid_front_pool_used_bytes", "csid_front_pool_size_bytes", ', pool="p1"'),
     ("Node", "csid_front_node_attachments", "csid_front_node_max_volumes", ', node="n1"'),
@@ -28,7 +28,7 @@ def constant(name, labels, value):
 
 
 def firing(pattern, minutes, names):
-    """Checks that after `minutes` exactly these alerts of the pattern fire."""
+    """Returns an expectation of promtool: after `minutes` exactly these alerts of the pattern fire."""
     return {
         "expr": 'count by (alertname) (ALERTS{alertstate="firing", alertname=~"%s"})' % pattern,
         "eval_time": "%dm" % minutes,

@@ -39,7 +39,7 @@ class ProgramsTest(ProgramTest):
                        re.search(r"(^|[\s-])%s\b" % option.lstrip("-"), text) is not None, True)
 
     def test_options_over_etcd(self):
-        """The same over etcd."""
+        """The built programs know the options of deploy/ over etcd."""
         for program in [self.csid_etcd, self.front, self.csid]:
             for where, *words, _ in etcd_commands():
                 given = dict(zip([self.csid_etcd, self.csid, self.front], words))[program]
@@ -72,8 +72,9 @@ class FirstStepTest(ProgramTest):
                 self.assertNotIn(FIRST, str(Unit(name).all(key)))
 
     def steps(self):
-        """Yields each first step as a function that returns its status, standard error and the content of the
-        file, with the path of the file, and True if the step needs the path as an argument."""
+        """Yields for each first step: its place, a function, the path of the file that it makes, and True if
+        the step needs the variable NEW. The function runs the step, and returns its status, standard error
+        and the content of the file, or None if there is no file. Skips the test if csid is not built."""
         if not os.access(self.csid, os.X_OK):
             self.skipTest("%s is not built" % self.csid)
         os.symlink(self.csid, os.path.join(self.folder, "csid"))
@@ -147,7 +148,8 @@ class CheckBeforeStartTest(ProgramTest):
         write(os.path.join(self.folder, name), text.encode())
 
     def end(self, command):
-        """Returns the result of a command of the unit, over files in the folder of the test."""
+        """Runs a command of the unit over files in the folder of the test. Returns the status, the output and
+        the errors."""
         unit = Unit(UNITS[0])
         script = unit.script(command)
         for option, name in ("--tables", "/volumes.db"), ("--config", "/config"):
@@ -233,7 +235,7 @@ class ProcessesTest(ProgramTest):
     """The commands of the manifests as first processes of namespaces. Folders and programs differ."""
 
     def test_first_processes(self):
-        """They end by SIGTERM."""
+        """csid and the front end by SIGTERM."""
         need_namespaces()
         manifest = Kubernetes()
         for name, socket in [("csid", "/run/csid/csid.sock"), ("front", "/csi/csi.sock")]:

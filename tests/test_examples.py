@@ -38,7 +38,8 @@ class SessionTest(CsictlTest):
         return lines, commands, "".join(it[2:] + "\n" for it in lines if it.startswith("# "))
 
     def bash(self, *words, typed=""):
-        """Returns the output of bash, with the built programs first on the PATH."""
+        """Runs bash with the built programs first on the PATH. Returns the output, the errors and the status.
+        """
         path = "%s:%s" % (self.folder, os.environ["PATH"])
         done = subprocess.run(["bash", *words], input=typed,
                               env={**os.environ, "PATH": path, "TMPDIR": self.folder}, capture_output=True,
@@ -46,7 +47,8 @@ class SessionTest(CsictlTest):
         return done.stdout, done.stderr, done.returncode
 
     def shown(self, blocks):
-        """Returns the output of bash for the commands in blocks, each after its command."""
+        """Returns what bash shows for the commands in blocks: each command after '$ ', and then its output.
+        """
         script = ["exec 2>&1", "cd " + self.folder]
         for line in "\n".join(blocks).splitlines():
             if line.startswith("$ "):
@@ -57,7 +59,7 @@ class SessionTest(CsictlTest):
 
 
 class BytesTest(SessionTest):
-    """The session with bytes."""
+    """The section "The session in bytes" of README.md."""
 
     def setUp(self):
         super().setUp()
@@ -71,7 +73,8 @@ class BytesTest(SessionTest):
 
 
 class ExampleTest(SessionTest):
-    """The session with the commands for people, which examples/session has too."""
+    """The section "A session" of README.md, with the commands for people. examples/session has the same
+    commands."""
 
     def setUp(self):
         super().setUp()
@@ -106,7 +109,7 @@ class ExampleTest(SessionTest):
 
 
 def session_blocks(heading, *path):
-    """Returns the blocks of a section whose first line is a command after '$ '."""
+    """Returns the blocks of code in a section that begin with '$ ' and a command."""
     text = re.split(r"\n#+ ", read(*path).split("\n%s\n" % heading)[1])[0]
     blocks = re.findall(r"(?:^ {4}.*\n|^\n(?= {4}))+", text, re.M)
     blocks = [re.sub(r"^ {4}", "", it, flags=re.M).strip("\n") for it in blocks]

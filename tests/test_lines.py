@@ -1,5 +1,5 @@
-"""The length of lines: 110 columns, 160 for a definition. In Go 100 columns for a comment and 120 for a line,
-with a tab as 4 columns."""
+"""The greatest length of lines: 110 columns, but 160 for a definition in specs/. In Go 100 columns for a
+comment and 120 for a line, with a tab as 4 columns."""
 
 import glob
 import os
@@ -11,7 +11,7 @@ from tests.support.rows import RowTest, each
 
 COMMENT = re.compile(r"\s*(?://|--)")
 CLAUSE = re.compile(r"\s*(?:requires|ensures)\b")
-# Lines of code without a limit: imports, attributes, and texts.
+# Lines of code without a limit: imports, attributes, and lines with a text.
 OWN_LENGTH = re.compile(r"\s*(?:(?:ghost |pub )?use |#)|.*\"")
 SOURCES = ["crates/*/src/**/*.rt", "crates/*/specs/**/*.antt", "crates/*/proofs/**/*.antt"]
 GO = ["go/**/*.go"]
@@ -22,7 +22,7 @@ SCRIPTS = ["build", "bench/**/*", "packaging/**/*", "scripts/*", "tests/*", "tes
 
 
 def files_of(patterns):
-    """Returns the files of the repository with these names."""
+    """Returns the files of the repository that match these patterns."""
     found = (it for pattern in patterns for it in sorted(glob.glob(pattern, root_dir=TOP, recursive=True)))
     return [it for it in found if os.path.isfile(os.path.join(TOP, it))]
 
@@ -32,7 +32,7 @@ def lines_of(path):
 
 
 def without_text(token):
-    """Returns a token of Go unchanged, but only the line ends of a text with several lines."""
+    """Returns a token of Go, but only the line ends of a text with several lines."""
     text = token.group(1) or ""
     return "\n" * text.count("\n") if "\n" in text else token.group()
 

@@ -11,7 +11,7 @@ FIXTURES = os.path.join(TOP, "tests", "fixtures")
 
 
 def listed(name):
-    """Returns a page of tests/fixtures/lists with its lists."""
+    """Returns a page of tests/fixtures/listed, which has its lists."""
     return read(os.path.join(FIXTURES, "listed", name)).decode()
 
 

@@ -50,8 +50,8 @@ class ScriptTest(FilesTest):
 
 class CheckPagesTest(ScriptTest):
     def places(self, rows, *words):
-        """Runs check-pages over a page with a paragraph for each row. Returns the status, and the lines about
-        each row."""
+        """Runs check-pages over a page with a paragraph for each row. Returns the status, and the reports by
+        line number."""
         self.write("docs/PAGE.md", "\n\n".join(text for _, text, _ in rows))
         status, lines = self.ended("check-pages", *words, "docs/PAGE.md")
         said = {}
@@ -69,7 +69,7 @@ class CheckPagesTest(ScriptTest):
         self.check("other lines", said, {})
 
     def test_dead_links_and_names(self):
-        """What a page refers to exists."""
+        """Each link and each name that leads nowhere is reported."""
         sums = "../crates/low/src/sums.rt"
         self.write("docs/OTHER.md", "# Other\n\n## A part\n")
         self.write("tests/test_sums.py", "class LowTest:\n    def test_sum(self):\n        test_low()\n")
@@ -130,7 +130,8 @@ class CheckPagesTest(ScriptTest):
 
 class TheoremsTest(ScriptTest):
     def test_page_of_a_crate(self):
-        """The page has the public functions, laws and wrong bodies of the crate, and nothing private."""
+        """The page has the public functions and laws of the crate, and the private functions with a wrong
+        body."""
         self.check("printed", self.ended("theorems", "low"), (0, PAGE.splitlines()))
         self.check("the index", self.read("docs/theorems/README.md"), INDEX)
 

@@ -47,7 +47,8 @@ class PlotsTest(RowTest):
         return line.split("|")[number].strip()
 
     def other(self, begin, number):
-        """Returns this row up to the cell, and the same text with another first number in the cell."""
+        """Returns the first row that begins with `begin`, up to this cell, and the same text with another
+        first number in the cell."""
         cell = self.cell(begin, number)
         changed = re.sub(r"\d(?![\d,.])", lambda digit: str((int(digit[0]) + 1) % 10), cell, count=1)
         line = next(line for line in self.page.splitlines() if line.startswith(begin))
@@ -55,7 +56,7 @@ class PlotsTest(RowTest):
         return old, old.replace("| %s |" % cell, "| %s |" % changed)
 
     def after(self, old, new):
-        """Returns the lines of --check for the page with a replaced text."""
+        """Replaces a text in the page. Returns the status, the output and the lines of --check."""
         self.assertIn(old, self.page)
         pathlib.Path(self.folder, PAGE).write_text(self.page.replace(old, new), encoding="utf-8")
         return self.checked("--check")

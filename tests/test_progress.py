@@ -32,7 +32,8 @@ class ProgressTest(FilesTest):
             shutil.copy(os.path.join(TOP, "scripts", name), os.path.join(self.folder, "scripts"))
 
     def heard(self, *lines, jobs="2", wait=0.0):
-        """Returns the lines that are passed on, with a wait before the last one, and the reports."""
+        """Gives scripts/progress these lines, the last one after a wait. Returns the lines that it passes on,
+        and its reports."""
         run = subprocess.Popen([sys.executable, "-B", "scripts/progress", "1"], cwd=self.folder,
                                env={**os.environ, "RT_JOBS": jobs}, stdin=subprocess.PIPE,
                                stdout=subprocess.PIPE, stderr=subprocess.PIPE, text=True)

@@ -29,7 +29,8 @@ class ProofCostsTest(FilesTest):
         pathlib.Path(path).write_bytes(data)
 
     def told(self, *declarations, names):
-        """Returns the lines about a module with these names and these kept declarations."""
+        """Returns the status and the lines of the script for a module with these names and these kept
+        declarations."""
         scripts = os.path.join(self.folder, "scripts")
         os.makedirs(scripts, exist_ok=True)
         shutil.copy(os.path.join(TOP, "scripts", "proof-costs"), scripts)

@@ -23,7 +23,8 @@ class RecipesTest(RecipeTest):
     """The commands in the recipes of docs/OPERATING.md."""
 
     def test_ways_of_a_copy(self):
-        """The ways to copy a file."""
+        """sqlite3 can copy the file, but not while a connection is served. A copy of the file without its WAL
+        then lacks the last change."""
         backup, vacuum = 'sqlite3 volumes.db ".backup COPY"', "sqlite3 volumes.db \"VACUUM INTO 'COPY'\""
         with Place(self.csictl, self.csid) as place:
             place.call(*create("a"))
@@ -108,7 +109,8 @@ class RecipesTest(RecipeTest):
             self.check("the one that is left", place.call("DeleteVolume", "--volume", "vol-2"), "0 OK\n")
 
     def begin_restore(self, place):
-        """Makes four volumes, the first two attached at n1, a copy, and step 1 of restoring it."""
+        """Makes four volumes, the first two attached at n1, and a copy, and does step 1 of restoring it.
+        Returns the folder of the copy."""
         for name in ["a", "b", "c", "d"]:
             place.call(*create(name))
         for volume in ["vol-1", "vol-2"]:
@@ -120,7 +122,8 @@ class RecipesTest(RecipeTest):
         return copies
 
     def test_attachments_of_kubernetes(self):
-        """The block that writes `attached` gets kubectl's lines about two volumes and three attachments."""
+        """The block that writes `attached` gets kubectl's lines about two volumes and four attachments, one
+        of a volume that is not listed."""
         (_, block) = blocks("### Volume ids in Kubernetes", "DEPLOY.md")
         with tempfile.TemporaryDirectory() as folder:
             kubectl = os.path.join(folder, "kubectl")
@@ -138,7 +141,7 @@ class RecipesTest(RecipeTest):
                 self.check("attached", file.read(), "vol-1 rw n2\nvol-2 ro n1\nvol-2 ro n2\n")
 
     def shows(self, name, came, wanted):
-        """Compares csictl's output for replies, without the first line of each."""
+        """Compares csictl's output, but for its lines that begin with `0 OK`. There must be no errors."""
         out, errors, status = came
         shown = [line for line in out.split("\n") if line and not line.startswith("0 OK")]
         self.check(name, (shown, errors, status), (wanted, "", 0))
@@ -177,7 +180,7 @@ class RecipesTest(RecipeTest):
             self.check("a pool that is taken away", said[1:],
                        ("csid: volumes.db: volume 1: it is vol-1 (a), 1 MiB in pool fast\n"
                         "csid: volumes.db: volume 1: its pool is not one of the configuration\n", 4))
-            # The configuration stays.
+            # The refused configuration is not used.
             self.assertEqual(place.call(*create("a", "x")), "0 OK\nvolume vol-1 1048576\n")
 
     def test_node_that_died(self):
@@ -274,7 +277,7 @@ class RestoreTest(RecipeTest):
         self.place.orchestrator("vol-40\nvol-2\nvol-3\n", "vol-40 rw n1\n")
 
     def test_rows_of_the_copy_are_back(self):
-        """The old files are moved away."""
+        """The files before the restore are moved next to the copy."""
         self.assertEqual((self.place.owners(), self.place.modes()), ({OWNER}, {"0o600"}))
         self.assertEqual(self.place.rows(), ({1: "a", 2: "b"}, 3))
         self.assertEqual(self.place.rows(self.copies + "/old/volumes.db"), ({2: "b", 3: "c"}, 4))
@@ -284,8 +287,8 @@ class RestoreTest(RecipeTest):
         self.assertEqual(came, ("vol-3\nvol-40\nvol-1\nvol-40 rw n1\n", "", 0))
 
     def make_again(self):
-        """Makes the missing volume again, and attaches it. Returns the output of csictl without the replies.
-        """
+        """Makes the missing volume again, and attaches it. Returns the output without the replies, the errors
+        and the status of both."""
         self.place.recipe("### A restore", 1, copies=self.copies)
         came = [self.place.recipe("### A volume that the copy does not have"),
                 self.place.recipe(ATTACHMENTS, 1, copies=self.copies)]
@@ -311,7 +314,8 @@ class RestoreTest(RecipeTest):
 POOL_OF_NONE = "volume 1: its pool is not one of the configuration"
 NODE_OF_NONE = "volume 1 at node n1: its node is not one of the configuration"
 VOL_1 = "volume 1: it is vol-1 (a), 1 MiB in pool p1"
-# For each row: the change, the pools, the nodes, the line that refuses it, and the line before.
+# For each row: the change, the pools, the nodes, the line that refuses the change, and the line before it.
+# Both are None if the change is allowed.
 CHANGES = [
     ("a further pool", {**POOLS, "p3": (1, "c")}, NODES, None, None),
     ("a further node", POOLS, {**NODES, "n3": 1}, None, None),
@@ -376,7 +380,7 @@ class ChangedConfigurationTest(RecipeTest):
 
 class DevicesTest(RecipeTest):
     def test_size(self):
-        """The size of a volume can be read."""
+        """The recipe shows the size of a volume, and that a deleted volume does not exist."""
         with Place(self.csictl, self.csid) as place:
             for number in range(1, 8):
                 place.call("CreateVolume", "--name", "pvc-%d" % number, "--mode", "1")
@@ -426,8 +430,8 @@ class KubernetesChangeTest(RecipeTest):
         self.before = self.place.control.runs("csid")
 
     def changes(self, gibibytes):
-        """Returns the output of the commands after the pool of 10 TiB, with 2 GiB in use, got another size.
-        """
+        """Gives the pool of 10 TiB, with 2 GiB in use, another size, and runs the commands. Returns the
+        output, the errors and the status."""
         text = pathlib.Path(self.manifest).read_text()
         self.assertEqual(text.count("bytes = %d\n" % (10 << 40)), 1)
         with open(self.manifest, "w") as file:
@@ -480,7 +484,8 @@ class KubernetesTest(RecipeTest):
         self.assertEqual(since, "0 OK\nvolume vol-4 1073741824\n")
 
     def restore(self):
-        """Restores the copy, after a further volume was made. Returns the output of the steps."""
+        """Restores the copy, after a further volume was made. Returns the output, the errors and the status
+        of the steps."""
         place = self.place
         begin, end, start = blocks("### A restore of the file in Kubernetes", "DEPLOY.md")
         into = blocks("### In Kubernetes, from etcd to a file", "ETCD.md")[2]

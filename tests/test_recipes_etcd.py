@@ -32,7 +32,7 @@ def many_frames(csictl):
 
 
 def calls_of(i):
-    """Returns the words of the calls for one volume."""
+    """Yields the words of the calls for volume `i`."""
     volume, mode = ["--volume", "vol-%d" % i], ["--mode", "3" if i % 2 else "5"]
     create = ["CreateVolume", "--name=%s %d" % (HARD[i % len(HARD)], i), "--required", str((1 + i % 8) * MIB)]
     create += [*mode, "--topology", "zone=" + "ab"[i % 2]]
@@ -66,7 +66,7 @@ MANIFESTS = ["kubernetes.yaml", "kubernetes-etcd.yaml", "kubernetes-tables.yaml"
 class EtcdRecipeTest(RecipeTest):
     """The commands in the recipes of docs/ETCD.md, over an etcd."""
 
-    # More programs for the place.
+    # Further programs for the folder of the recipes.
     programs = {}
 
     def setUp(self):
@@ -78,7 +78,8 @@ class EtcdRecipeTest(RecipeTest):
         self.place.variables.update(ENDPOINTS=self.etcd.endpoint, ETCDCTL_API="3")
 
     def recipe(self, heading, *numbers, **variables):
-        """Returns the output of the blocks of a recipe, after the block with which all begin."""
+        """Runs blocks of a recipe, after the block with which all recipes begin. Returns the output, the
+        errors and the status."""
         first, members = blocks("## From a file to etcd, and back", "ETCD.md")[0], "10.0.0.%d:2379"
         members = ",".join(members % it for it in (1, 2, 3))
         self.assertIn(members, first)
@@ -262,13 +263,13 @@ class KubernetesEtcdTest(EtcdRecipeTest):
         self.later = volume("later")
 
     def walk(self, *steps):
-        """Returns the output of all steps, without the revision."""
+        """Runs all steps. Returns the output, the errors without the revision, and the status."""
         first = blocks("### In Kubernetes", "ETCD.md")[0]
         first = re.sub(r'etcd=".*"', 'etcd="--endpoints %s"' % self.etcd.endpoint, first)
         out, error, status = self.place.shell(first + "".join(steps))
         return out, re.sub(r"revision \d+", "revision R", error), status
 
-    # Steps shared with the recipes without Kubernetes are taken from these.
+    # The recipes in Kubernetes share some steps with the recipes without Kubernetes.
 
     def go_over(self):
         no_new_rows, aside, to_deployment = blocks("### In Kubernetes, from a file to etcd", "ETCD.md")

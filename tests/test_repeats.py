@@ -1,6 +1,7 @@
 """A call that is repeated after a call of another client (docs/MACHINE.md, "Repeats among other clients"). If
-the other call does not change its object, the repeat has the same reply and changes nothing. Each line of the
-table has a history whose other call changes the object, and the repeat has another reply."""
+the other call does not change its object, the repeat has the same reply and changes nothing. For each line of
+the table on that page there is a history whose other call changes the object. The repeat then has another
+reply, or changes something."""
 
 import collections
 
@@ -72,7 +73,7 @@ class RepeatsTest(CsidTest):
         self.check(name, run([self.csid, "pipe"], input=calls), (replies, "", 0))
 
     def repeat(self, it):
-        """Returns the stream of a history, with its question right before and right after the repeat."""
+        """Compares the replies of a history, with its question right before and right after the repeat."""
         asked, before, after = it.question
         steps = it.call, it.other, (asked, before), (it.call[0], it.again), (asked, after)
         self.stream(it.name, *it.before, *steps)

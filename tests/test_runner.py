@@ -11,7 +11,8 @@ from tests.support.csictl import Line
 from tests.support.processes import SECONDS, TOP, Shown, has_ended
 from tests.support.rows import FilesTest, RowTest, each
 
-# A module with two tests, one of which fails in the first run or in both, and a test whose process ends.
+# A module with two tests. One is skipped. The other fails in its first run or in both runs, or ends its
+# process.
 MODULE = """import os
 import unittest
 

@@ -10,7 +10,7 @@ from tests.vectors.rows import STEPS, Plain, Words
 
 class VectorsTest(FilesTest):
     def groups_of(self, text, reader=Plain, **words):
-        """Returns the groups of a file with this text, or its fault."""
+        """Returns the groups of a file with this text, or the text of the fault in it."""
         self.write("rows.txt", text)
         try:
             return reader(os.path.join(self.folder, "rows.txt"), **words).groups

@@ -27,7 +27,7 @@ from tests.support.rows import RowTest
 
 SEEDS, STEPS, WALKS, OFTEN, SECONDS = range(1, 5), 2000, 100, 30, 300
 
-# The outcomes that must occur often: each kind of change, and each refusal.
+# The outcomes that must occur often, of requests, and of what happens to csid, its file and its change store.
 EXPECTED = ["created", "created again", "deleted", "nothing to delete", "published",
             "published with a part of its mode", "published again", "unpublished", "nothing to unpublish",
             "confirmed", "not confirmed", "page", "last page", "capacity", "no capacity",
@@ -38,7 +38,7 @@ EXPECTED = ["created", "created again", "deleted", "nothing to delete", "publish
             "mutable parameters are too large", "a file of format 1 taken over",
             "a change that the log refused", "a change that the log did not make",
             "a change that the log made, but did not answer", "a connection that the log ended"]
-# For each report of a change store, True if it makes the change.
+# For each fault of the change store, the name of its outcome.
 FAULTS = {
     change_stores.KeptChangeStore.REFUSES: "a change that the log refused",
     change_stores.KeptChangeStore.ENDS: "a change that the log did not make",
@@ -99,7 +99,8 @@ class LogServer:
         self.stream = self.peer.makefile("rb")
 
     def exchange(self, call):
-        """Returns the reply to a call, or the part of it that comes."""
+        """Returns the reply to a call, the part of it that comes before the connection ends, or nothing if
+        the connection is broken."""
         try:
             self.peer.sendall(call)
             read = self.stream.read
@@ -152,7 +153,7 @@ def rows_in(path):
 
 
 class Walk:
-    """One walk, and its findings."""
+    """One walk: random requests to csid and to a model, and the replies or rows that differ."""
 
     def __init__(self, csid, seed, server):
         self.model, self.server = Model(), server
@@ -168,7 +169,7 @@ class Walk:
         return came == reply
 
     def step(self):
-        """Makes a request, and lists the volumes."""
+        """Makes a request, and lists the volumes. Returns False after a finding."""
         listed = self.asks(*self.requests.next()) and self.asks(v.listing(), *self.model.listing(0, "")[:2])
         rule = self.model.breaks()
         if rule:
@@ -177,7 +178,7 @@ class Walk:
 
     def pages(self):
         """Lists page after page, with requests between them. No volume comes twice, and a volume that is
-        never deleted comes."""
+        never deleted comes. Returns False after a reply that is not the model's."""
         throughout, listed, token = {it.number for it in self.model.volumes}, [], None
         while token != "":
             most = self.requests.one_of(1, 2, 3)
@@ -198,7 +199,8 @@ class Walk:
         return True
 
     def makes_older(self):
-        """Changes the file to format 1, which has no mutable parameters."""
+        """Changes the file to format 1, which has no mutable parameters, and takes these from the model's
+        volumes, too."""
         connection = sqlite3.connect(self.server.tables)
         with connection:
             for it in self.model.volumes:
@@ -210,8 +212,8 @@ class Walk:
         self.seen["a file of format 1 taken over"] += 1
 
     def upsets_log(self):
-        """Makes the next change of the store fail, ends the connection of the store, or kills csid and starts
-        it again. Then checks the rows."""
+        """Checks the rows, unless a fault is due. Then makes the next change of the store fail, ends the
+        connection of the store, or kills csid and starts it again."""
         if (self.server.log.fault is None
             and self.server.log.rows() != rows(self.model)
             and self.model.next > 1):
@@ -228,7 +230,8 @@ class Walk:
             self.seen[FAULTS[how]] += 1
 
     def starts_anew(self):
-        """Starts csid again over its file."""
+        """Ends or kills csid, and starts it again over its file, often with an older format. After an end the
+        rows must be the model's."""
         how = self.requests.one_of("ends", "is killed", "is older", "is older")
         if how != "ends":
             self.server.kill()
@@ -239,7 +242,7 @@ class Walk:
         self.server.start()
 
     def run(self):
-        # The reports for pools without volumes.
+        # These are calls for the capacity while there are no volumes.
         if not all(self.asks(*self.requests.capacity()) for _ in range(8)):
             return self
         for at in range(STEPS):

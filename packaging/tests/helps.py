@@ -23,7 +23,7 @@ def help_of(program, words):
 
 
 def listed(program, words):
-    """Returns the options in the help of a program: --name of clap, -name of Go."""
+    """Returns the options in the help of a program as --name. clap prints them as --name, and Go as -name."""
     return {"--" + it
             for it in re.findall(r"^ +(?:-\w, )?--?([a-z][a-z-]+)\b", help_of(program, words), re.M)}
 

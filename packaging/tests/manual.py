@@ -12,7 +12,7 @@ from tests.helps import options_of
 from tests.rows import LeftOut
 
 MANUAL = os.path.join(TOP, "packaging", "manual")
-# Sections of each page. They belong to no other page by chance.
+# For each page, sections that it must have, in this order. The page may have further sections between them.
 SECTIONS = {
     "csid.1": ["NAME", "SYNOPSIS", "DESCRIPTION", "OPTIONS", "ARGUMENTS THAT ARE REFUSED", "LIMITS",
                "A NEWER CSID", "WHAT IS LEFT OUT", "SECRETS", "EXIT STATUS", "DIAGNOSTICS", "FILES",
@@ -171,7 +171,8 @@ def piece_rows():
 
 
 def synopsis_rows():
-    """A form of the command line with an indented second line, and the name of the program in a package."""
+    """An indented line continues a form of the command line. A form begins with the name of the installed
+    program."""
     with tempfile.TemporaryDirectory() as folder:
         manual = copied(folder, "DEPLOY.md", "    front --version\n",
                         "    front --version\n          [--a B] c\n    front d\n")
@@ -208,7 +209,7 @@ def dead_link_rows():
 
 
 def without_rows():
-    """If a release has no csid-etcd, no page refers to its page."""
+    """Without csid-etcd, its page is not made, and no page refers to it."""
     with tempfile.TemporaryDirectory() as folder:
         yield "the pages without that of csid-etcd", run(MANUAL, "--without-etcd", folder), (0, "")
         yield "what there is", sorted(os.listdir(folder)), sorted(set(SECTIONS) - {"csid-etcd.1"})
@@ -235,7 +236,8 @@ def made_rows(programs, folder):
 
 
 def parts(programs, folder):
-    """Yields the rows. The later rows read the pages that the first rows make in a folder."""
+    """Returns the parts of the test. The first part makes the pages in a folder, and the last two parts read
+    them."""
     warnings = [
         warning_rows(folder, "groff", "-man", "-ww", "-z"),
         warning_rows(folder, "man", "--warnings", "-l", "-Tutf8"),

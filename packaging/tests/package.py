@@ -99,7 +99,8 @@ class System:
                 shutil.copy(library, self.path(library))
 
     def dpkg(self, *words):
-        """Runs dpkg. Returns its exit status, and how the scripts called systemd."""
+        """Runs dpkg. Returns its exit status, the lines of errors of csid's scripts and of dpkg, and how the
+        scripts called systemd."""
         self.write("calls", "", 0o644)
         status, _, error = run("dpkg", "--root=" + self.root, "--log=" + self.path("dpkg.log"),
                                "--force-depends", "--force-confold", *words)
@@ -110,8 +111,8 @@ class System:
         return run("chroot", self.root, *words)
 
     def command(self, unit):
-        """Returns the command that a unit starts, and the variables that it sets. A variable may be a word of
-        the command."""
+        """Returns the words of the command that a unit starts, and the variables that it sets. A word that is
+        a variable is replaced by the words of its value."""
         text = re.sub(r"\\\n\s*", "", read(self.path("lib/systemd/system/" + unit)))
         variables = dict(word.split("=", 1)
                          for line in re.findall(r"^Environment=(.*)$", text, re.M)
@@ -123,8 +124,8 @@ class System:
 
     @contextlib.contextmanager
     def started(self, unit, socket):
-        """Runs the command of a unit, and waits for its socket. An old socket is removed first, as systemd
-        does."""
+        """Runs the command of a unit until the block ends, and first waits for its socket. An old socket is
+        removed before, as systemd does."""
         if os.path.exists(self.path(socket)):
             os.unlink(self.path(socket))
         words, variables = self.command(unit)
@@ -140,7 +141,7 @@ class System:
             process.wait()
 
     def tables(self):
-        """Returns the checksums of the file of volumes and of its WAL."""
+        """Returns the checksums of the file of volumes and of its WAL, for each that exists."""
         return {name: checksum(self.path(name))
                 for name in (TABLES, TABLES + "-wal")
                 if os.path.exists(self.path(name))}
@@ -152,8 +153,8 @@ def ended(process):
 
 
 def content_rows(programs, package):
-    """The paths and modes of the files. For licences, which depend on the parts of the programs, only the
-    modes."""
+    """Compares the paths and modes of the files. For licences, which depend on the parts of the programs,
+    compares only the modes."""
     held = [re.sub(r" +\d+ \d{4}-\d\d-\d\d \d\d:\d\d ", " ", it)
             for it in run("dpkg-deb", "--contents", package)[1].splitlines()]
     listed = [it for it in held if LICENCES not in it]
@@ -169,7 +170,7 @@ def content_rows(programs, package):
 
 def control_rows(programs, package):
     """The package depends on the packages of the linked libraries and of the programs that the maintainer
-    scripts call. Its checksums match its files."""
+    scripts call. The checksums in the package match its files."""
     linked = {os.path.realpath(it)
               for name in ("csid", "csictl")
               for it in re.findall(r"(/\S+) \(0x", run("ldd", programs[name])[1])}
@@ -218,7 +219,7 @@ def lintian_rows(package):
 
 
 def called(system, *words):
-    """Returns the output of csictl for a call, after its first line."""
+    """Makes a call by csictl. Returns its status, its output after the first line, and its errors."""
     status, out, error = system.inside("/usr/bin/csictl", "call", "--socket", "/" + CSID_SOCKET, "--method",
                                        *words)
     return status, out.partition("\n")[2].strip(), error
@@ -236,7 +237,7 @@ def use_rows(programs, system):
     yield "csid-new makes the file of volumes", system.inside(*system.command("csid-new.service")[0]), (0, "",
                                                                                                         "")
     with system.started("csid.service", CSID_SOCKET) as csid:
-        # This comes before the front is started, since the front keeps a connection to csid.
+        # This call comes before the front is started, since the front keeps a connection to csid.
         yield "csid answers", called(system, "CreateVolume", "--name", "a", "--mode", "1"), (0, VOLUME, "")
         with system.started("csid-front.service", FRONT_SOCKET) as front:
             yield "the front is there", os.path.exists(system.path(FRONT_SOCKET)), True
@@ -248,7 +249,7 @@ def use_rows(programs, system):
 
 
 def later(package, folder):
-    """Returns the path of a package with a later version."""
+    """Makes a package with a later version, and returns its path."""
     tree, made = os.path.join(folder, "later"), os.path.join(folder, "later.deb")
     run("dpkg-deb", "--raw-extract", package, tree)
     control = os.path.join(tree, "DEBIAN", "control")
@@ -270,7 +271,8 @@ def upgrade_rows(system, package, folder):
 
 
 def remove_rows(system, package):
-    """A remove keeps the tables and the configuration, and a purge keeps the tables."""
+    """A remove keeps the tables and the configuration. A purge keeps the tables, but removes a folder without
+    tables."""
     before = system.tables()
     yield "a remove", system.dpkg("--remove", "csid"), (0, "", STOPPED)
     yield "what it leaves", (system.tables(), os.path.exists(system.path(CONFIG)),

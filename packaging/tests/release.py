@@ -18,7 +18,8 @@ CSID, CSICTL, FRONT, ETCD = ("crates/csid/out/csid", "crates/csictl/out/csictl",
                              "go/etcd/out/csid-etcd")
 USAGE = "release: usage: ./release [--out FOLDER | --check]\n"
 NO_KIT = "%s: 'rt' is not on the PATH: the Rattle toolchain is needed (README.md, 'Build, run, test')\n"
-# For each row: the programs that exist, the files that are newer, and the line that ./release prints.
+# For each row: the programs that exist, the file that is newer than they (None: no file), and the line that
+# ./release prints.
 REFUSED = [
     ([], None, BUILD % (CSID, "./build")),
     ([CSID, FRONT], None, BUILD % (CSICTL, "./build")),
@@ -69,8 +70,8 @@ def folder_rows(folder, name, package):
 
 
 def files_of(programs):
-    """Returns the files of a release without licences: the programs, their manual pages and completions, and
-    the committed files of README.md, docs/ and deploy/."""
+    """Returns the files of a release without licences: the programs, their manual pages and completions,
+    csid.spdx.json, VERSION, README.md, and the committed files of docs/ and deploy/."""
     parts = ["README.md", "VERSION", "docs", "deploy"]
     committed = output("git", "-C", TOP, "ls-files", *parts).split("\n")
     pages = [it + ".1" for it in programs] + ["csid-config.5", "csid-protocol.7", "csid-new.8"]
@@ -82,7 +83,7 @@ def files_of(programs):
 
 
 def archive_rows(path, name, programs):
-    """The files of the tar.gz. Their owner, date and order do not reveal who made it."""
+    """The tar.gz has the files of a release. Their owners, dates and order do not show who made it."""
     date = int(output("git", "-C", TOP, "log", "-1", "--format=%ct"))
     with tarfile.open(path) as archive:
         members = archive.getmembers()
@@ -121,7 +122,8 @@ def licence_rows(folder, name):
 
 
 def list_rows(path, programs):
-    """The parts list: its programs, some parts whose versions are known from elsewhere, and its relations."""
+    """Compares the parts list: its programs, some parts whose versions rt or dpkg also knows, and its
+    relations."""
     with open(path, encoding="utf-8") as file:
         made = json.load(file)
     packages = {it["name"]: it for it in made["packages"]}
@@ -174,7 +176,8 @@ def clone(folder):
 
 
 def touch(path, seconds):
-    """Makes a file unless it exists, and sets its date to `seconds` after the clone."""
+    """Makes a file unless it exists, and makes it executable. Its date is `seconds` after the date of
+    packaging/tests/release.py."""
     os.makedirs(os.path.dirname(path), exist_ok=True)
     with open(path, "a"):
         pass
@@ -210,8 +213,8 @@ def refusal_rows(is_etcd):
 
 
 def refused(top, programs, newer, again):
-    """Returns the exit status and the line of ./release, with these programs built, a newer source, and some
-    programs built again."""
+    """Runs ./release with these programs built, a newer source unless it is None, and some programs built
+    again. Returns its exit status, output and errors."""
     for path in programs:
         touch(os.path.join(top, path), (1 << 30) + (2 if path in again else 0))
     if newer:
@@ -231,7 +234,7 @@ PLAYED = {
 
 
 def difference_rows(is_etcd):
-    """A check makes two releases, and reports if they differ by folder, time zone or umask."""
+    """A check makes two releases, and reports if they differ: by folder, time zone, umask or chance."""
     said = "release: two releases of the same programs differ\n"
     with tempfile.TemporaryDirectory() as folder:
         top = os.path.join(folder, "csid")

@@ -2,11 +2,12 @@
 
 
 class LeftOut(Exception):
-    """Rows that need a program or file that is missing."""
+    """The rows of a part cannot be checked here: a program or a file is missing, or the user is not root."""
 
 
 def count(parts):
-    """Compares the rows of each part, reports differences, and returns the exit status."""
+    """Compares the rows of each part. Prints the rows that differ, the parts that are left out, and the
+    counts. Returns the exit status, which is 1 if a row differs or a part raises another error."""
     passed = failed = 0
     for part in parts:
         try:

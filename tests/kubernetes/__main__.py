@@ -20,7 +20,8 @@ from tests.kubernetes.rights import rights_rows
 
 
 def run(part):
-    """Prints each row of a part. Returns the numbers of passed and of failed rows."""
+    """Prints each row of a part. Returns the numbers of passed and of failed rows. An error in the part
+    counts as a failed row."""
     passed = failed = 0
     try:
         for name, found, wanted in part:

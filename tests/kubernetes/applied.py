@@ -25,8 +25,8 @@ def try_rows(cluster, others, number, replaced):
 
 
 def read_back_rows(cluster, text, meant, found):
-    """The object has each value of the manifest when it is read back, and the fields that a server drops
-    silently."""
+    """Each object has each value of the manifest when it is read back. The comparison also finds a field that
+    a server drops silently."""
     kinds = [[one["kind"] for one in objects] for objects in (found, meant)]
     yield "what is read back are its objects", *kinds
     for want, one in zip(meant, found):

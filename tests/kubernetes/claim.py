@@ -38,7 +38,8 @@ CLAIM_PATH = "/api/v1/namespaces/default/persistentvolumeclaims/data"
 
 
 def capacity(cluster, zone, room):
-    """Returns the CSIStorageCapacity that csi-provisioner writes for a zone, in the server's version."""
+    """Makes the CSIStorageCapacity of a zone in the server's version, as csi-provisioner does. Returns the
+    status of the answer."""
     owner = cluster.get("/apis/apps/v1/namespaces/csid/statefulsets/csid")["metadata"]["uid"]
     known = "/apis/storage.k8s.io/%s/csistoragecapacities"
     group = next(it for it in ["v1", "v1beta1", "v1alpha1"] if cluster.get(known % it))
@@ -57,7 +58,7 @@ def capacity(cluster, zone, room):
 
 
 def reference(claim):
-    """Returns the reference by which other objects name the claim."""
+    """Returns the reference to the claim that other objects have."""
     uid = claim["metadata"]["uid"]
     kind = {"apiVersion": "v1", "kind": "PersistentVolumeClaim"}
     return {**kind, "namespace": "default", "name": "data", "uid": uid}
@@ -105,8 +106,8 @@ def finalize(cluster, path, is_there):
 
 
 def notes(cluster):
-    """Returns the annotations that the scheduler and the controllers write on the claim for csi-provisioner.
-    """
+    """Returns the annotations that the scheduler and the controllers write on the claim for csi-provisioner:
+    the node and the provisioner. Each is None until it is written."""
     annotations = cluster.get(CLAIM_PATH)["metadata"].get("annotations", {})
     return [annotations.get("volume.kubernetes.io/selected-node"),
             annotations.get("volume.beta.kubernetes.io/storage-provisioner")]
@@ -170,7 +171,7 @@ def attached_rows(cluster, attachment, volume):
 
 
 def detached_rows(cluster, attachment):
-    # The kubelet has ended the pod.
+    # A kubelet does this after the pod has ended.
     cluster.ask("DELETE", POD_PATH + "?gracePeriodSeconds=0")
     is_ending = wait(lambda: "deletionTimestamp" in cluster.get(attachment)["metadata"])
     yield "it is to be detached once the pod has ended", is_ending, True

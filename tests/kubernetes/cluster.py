@@ -11,12 +11,13 @@ import subprocess
 import sys
 import time
 
-# The seconds to wait for an event. A scheduler tries a pod that found no room again after 60 to 90 seconds.
+# The seconds to wait for an event. If a pod found no room, the scheduler tries it again after 60 to 90
+# seconds.
 SECONDS = 120
-# Before the first version, storage capacity must be enabled. Before the second version, a second port without
-# authentication must be disabled.
+# Before the first of these versions of Kubernetes, storage capacity must be enabled. Before the second, a
+# port without authentication must be disabled.
 CAPACITY, ONE_PORT = (1, 21), (1, 23)
-# The controllers, without those that judge a node by the reports of a kubelet.
+# The controllers, but not the controllers that judge a node by the reports of a kubelet.
 CONTROLLERS = """
     statefulset disruption serviceaccount serviceaccount-token root-ca-cert-publisher garbagecollector
     persistentvolume-binder attachdetach pvc-protection pv-protection
@@ -54,7 +55,7 @@ def need_pods(cluster):
 
 
 class Cluster:
-    """The servers, and the requests of the administrator and of other users."""
+    """The servers of a cluster, and requests to them from the administrator or another user."""
 
     def __init__(self, folder, programs):
         self.folder, self.programs, self.processes = folder, programs, []
@@ -64,7 +65,8 @@ class Cluster:
         self.address = "https://127.0.0.1:%d" % self.port
 
     def begin(self):
-        """Starts the servers, each with a log in the folder."""
+        """Starts the servers, each with a log in the folder, and waits for the API server. The controllers
+        are started only if their programs are given. Ends the script if the API server does not get ready."""
         self.certify()
         self.start_servers()
         if not wait(self.is_ready):
@@ -137,7 +139,7 @@ class Cluster:
         self.tls.load_cert_chain(certificate, key)
 
     def sign(self, name, subject, extension):
-        """Makes a key and its certificate."""
+        """Makes a key, and a certificate of it from the CA."""
         pathlib.Path(self.path("extension")).write_text(extension)
         files = "-keyout %s.key -out %s.csr" % (name, name)
         self.openssl("req -newkey rsa:2048 -nodes -subj %s %s" % (subject, files))
@@ -159,8 +161,8 @@ class Cluster:
             json.dump(config, file)
 
     def ask(self, method, path, body=None, user=None):
-        """Sends a request as the administrator, or as another user. Returns the status and the object of the
-        answer."""
+        """Sends a request as the administrator, or as another user. Returns the status, and the object of the
+        answer, or its text if it is no object."""
         options = {"context": self.tls, "timeout": SECONDS}
         connection = http.client.HTTPSConnection("127.0.0.1", self.port, **options)
         kind = "application/merge-patch+json" if method == "PATCH" else "application/json"
@@ -196,6 +198,6 @@ class Cluster:
         return json.loads(self.kubectl("get", "-o", "json", text=text)[1])["items"]
 
     def try_create(self, document, validate):
-        """Returns the answer of kubectl to the creation of an object in a dry run."""
+        """Creates an object in a dry run by kubectl. Returns its status, output and errors."""
         words = ["create", "--dry-run=server", "--validate=" + validate]
         return self.kubectl(*words, text=json.dumps(document))

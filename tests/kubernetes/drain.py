@@ -9,13 +9,14 @@ PATH = "/api/v1/namespaces/csid/pods/csid-0"
 
 
 def budget(cluster):
-    """Returns the group and the path of the PodDisruptionBudget."""
+    """Returns the version of the API and the path of the PodDisruptionBudget."""
     group = "policy/v1beta1" if cluster.version < POLICY else "policy/v1"
     return group, "/apis/%s/namespaces/csid/poddisruptionbudgets/csid" % group
 
 
 def run(cluster, ready):
-    """Reports the pod as running or ready, as a kubelet does, and waits until the budget counts it."""
+    """Reports as a kubelet does that the pod runs, and that it is ready if `ready`. Waits until the budget
+    agrees."""
     conditions = [{"type": "Ready", "status": str(ready)}]
     status = {"phase": "Running", "conditions": conditions}
     cluster.ask("PATCH", PATH + "/status", {"status": status})
@@ -44,6 +45,6 @@ def drain_rows(cluster):
     time.sleep(5)
     found = uid(cluster), "deletionTimestamp" in cluster.get(PATH)["metadata"]
     yield "while it ends no other is made", found, (before, True)
-    # The kubelet reports that the pod has ended.
+    # A kubelet does this after the pod has ended.
     cluster.ask("DELETE", PATH + "?gracePeriodSeconds=0")
     yield "then it is made anew", wait(lambda: uid(cluster) not in (None, before)), True

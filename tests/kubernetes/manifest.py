@@ -47,7 +47,7 @@ def by_kind(text):
 
 
 def pod_alone(whole):
-    """Returns the pod of a StatefulSet alone, with its claims as volumes."""
+    """Returns a PodTemplate with the pod of a StatefulSet, and with its claims as volumes."""
     template = copy.deepcopy(whole["spec"]["template"])
     claims = [claim["metadata"]["name"] for claim in whole["spec"]["volumeClaimTemplates"]]
     template["spec"]["volumes"] += [{"name": name, "persistentVolumeClaim": {"claimName": name}}
@@ -102,7 +102,7 @@ def missing(meant, found, path=""):
 
 
 def bare(one):
-    """Returns an object without the fields that the server writes, such as its version."""
+    """Returns an object without its metadata and status, and its generation."""
     own = {key: value for key, value in one.items() if key not in ("metadata", "status")}
     return own, one["metadata"].get("generation")
 

@@ -10,7 +10,7 @@ CLAIM_PATH = "/api/v1/namespaces/csid/persistentvolumeclaims/tables-csid-0"
 
 
 def node(name, zone):
-    """Makes a node that is ready, as the kubelet and the node plugin report it."""
+    """Returns a node that is ready, as the kubelet and the node plugin report it."""
     labels = {"kubernetes.io/hostname": name, ZONE: zone}
     metadata = {
         "name": name,
@@ -31,8 +31,8 @@ def node(name, zone):
 
 
 def without_tokens(pod):
-    """Removes the mounts of the account's token from a pod. Returns the number of mounts in each container.
-    """
+    """Removes the mounts of the account's token from a pod. Returns the number of removed mounts of each
+    container."""
     tokens = {}
     for container in pod["spec"]["initContainers"] + pod["spec"]["containers"]:
         mounts = container["volumeMounts"]
@@ -58,7 +58,7 @@ def made_rows(cluster, whole):
 
 
 def state(cluster):
-    """Returns the pod and its images, or None."""
+    """Returns the uid of the pod and the images of its first two containers, or None if there is no pod."""
     one = cluster.get(PATH)
     images = one and [container["image"] for container in one["spec"]["containers"]][:2]
     return one and (one["metadata"]["uid"], images)

@@ -13,8 +13,8 @@ ROWS = tables("kubernetes", globals())
 
 
 def tries_of(kinds):
-    """Yields each dry run: its kind, its description, the object, whether kubectl checks it, and the message.
-    """
+    """Returns the dry runs: each with its kind, its description, the object, kubectl's own check ("true" or
+    "false"), and a pattern of the refusal."""
     tries = [(kind, "%s for %s" % (wrong, path), misspelt(kinds[kind], path, wrong), "true", UNKNOWN)
              for kind, path, wrong in ROWS["MISSPELT"]]
     # kubectl does not check types here, so the server must refuse the object.

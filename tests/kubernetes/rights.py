@@ -4,7 +4,7 @@ from tests.kubernetes.manifest import ACCOUNT, OTHER
 from tests.support.data import tables
 
 ROWS = tables("kubernetes-rights", {})
-# What the account may read with its token.
+# What the account may (True) or may not (False) read with its token.
 GETS = [
     ("persistentvolumes", True),
     ("csistoragecapacities -n csid", True),
@@ -30,7 +30,7 @@ def rules(cluster, user, namespace):
 
 
 def can(cluster, group, resource, verb, namespace):
-    """Returns kubectl's answer, yes or no."""
+    """Returns kubectl's answer if the account has a right: yes or no."""
     name, _, part = resource.partition("/")
     kind = name + ("." + group if group else "")
     subresource = ["--subresource=" + part] if part else []
@@ -39,7 +39,7 @@ def can(cluster, group, resource, verb, namespace):
 
 
 def said_rows(cluster, may):
-    """Asks kubectl for each right alone."""
+    """Asks kubectl for each right alone, if the account has it."""
     for role, namespace in [("ClusterRole", "default"), ("Role", "csid")]:
         for group, resource, verb in sorted(may[role]):
             found = can(cluster, group, resource, verb, namespace)

@@ -9,7 +9,7 @@ MIB = 1 << 20
 
 
 class Breaker:
-    """Breaks correct frames and messages."""
+    """Breaks correct frames and messages at random. `corpus` has correct calls: their paths and messages."""
 
     def __init__(self, source, corpus):
         self.source, self.corpus = source, corpus
@@ -47,8 +47,8 @@ class Breaker:
                 + text[to:])
 
     def nested(self, message):
-        """Returns the message inside an embedded message, that inside a further one, and so on: up to 200,000
-        levels or 1 MiB."""
+        """Returns the message inside an embedded message, this one inside a further one, and so on: up to
+        200,000 levels or 1 MiB."""
         number, heads, length = self.source.randrange(1, 10), [], len(message)
         for _ in range(self.one_of(2, 10, 100, 1000, self.source.choice((5000, 5000, 5000, 200000)))):
             heads.append(v.tag(number, 2) + v.varint(length))
@@ -91,7 +91,7 @@ class Breaker:
 
 
 def calls_of_vectors():
-    """Returns the calls of tests/vectors."""
+    """Returns the calls of tests/vectors, each as its path and its message."""
     calls = []
     for line in corpus.lines():
         digits = line.split(" ")[1] if line and line[0] != "#" else "-"
@@ -102,8 +102,8 @@ def calls_of_vectors():
 
 
 def reading(stream):
-    """Returns the number of calls in a stream, and the text of the fault that ends it (docs/PROTOCOL.md,
-    "Streams")."""
+    """Returns the number of calls in a stream, and the text of the fault that ends it, or None for a whole
+    stream (docs/PROTOCOL.md, "Streams")."""
     at = count = 0
     cut = "end of input at byte %d" % len(stream)
     while at < len(stream):
@@ -142,7 +142,8 @@ def replies_in(stream):
 
 
 def is_ok(reply):
-    """Returns True if the bytes are one OK reply. Returns None if more bytes follow one."""
+    """Returns True if the bytes are one OK reply, None if more bytes follow one, and False for other bytes.
+    """
     size = 8 + int.from_bytes(reply[4:8], "big")
     if len(reply) < 8 or reply[:4] != bytes(4) or not size <= min(len(reply), 8 + 4 * MIB):
         return False
@@ -241,7 +242,8 @@ def pings_and_settings(source, _):
 
 
 def calls(source, corpus):
-    """Calls with broken messages, some of them in broken length prefixes or frames."""
+    """Calls with broken messages. The length prefix of some messages is also broken, and in half of the
+    inputs the whole stream."""
     breaker, whole = Breaker(source, corpus), b""
     for at in range(source.choice((1, 1, 3, 20))):
         path, message = source.choice(corpus)
@@ -254,12 +256,12 @@ def calls(source, corpus):
     return breaker.bytes(whole) if source.randrange(2) else whole
 
 
-# The weight of each kind.
+# For each kind, its weight in the random choice.
 KINDS = {raw_bytes: 10, any_frames: 10, long_headers: 1, reset_calls: 10, silent_calls: 10,
          pings_and_settings: 10, calls: 50}
 
 
 def broken_http(source, corpus):
-    """Returns an input for the front, and its kind."""
+    """Returns the name of a random kind of input for the front, and an input of this kind."""
     [kind] = source.choices(list(KINDS), list(KINDS.values()))
     return kind.__name__, (b"" if kind is raw_bytes else HELLO) + kind(source, corpus)

@@ -38,11 +38,11 @@ def connection(path, patience):
 class Fronts:
     """Fronts on whose control sockets clients call."""
 
-    # The paths of the control sockets. The first one is the last one that answered the client.
+    # The paths of the control sockets. The path of the front that answered last is the first.
     paths = []
     # The seconds for which a client waits for a reply, and the statuses that count as no reply.
     patience, unheard = SECONDS, ()
-    # The histories, of each twenty, in which a program is killed.
+    # The numbers of the histories in which a program is killed, of each twenty.
     killed = (4, 11)
 
     def connect(self):
@@ -81,7 +81,7 @@ class Plugin(Fronts):
             raise ValueError("csid has no socket")
 
     def kill(self):
-        """Kills csid, and starts another one over the same file."""
+        """Kills csid, and starts another one over the same file, or over a new file if the plugin forgets."""
         self.process.send_signal(signal.SIGKILL)
         self.process.wait(SECONDS)
         os.unlink(self.socket)
@@ -110,7 +110,8 @@ class Caller:
         self.repeats, self.source, self.peer = repeats, source, None
 
     def connect(self):
-        """Connects to a front that serves, unless the client is connected."""
+        """Connects to a front that serves, unless the client is connected. Raises TimeoutError if no front
+        serves."""
         until = time.monotonic() + SECONDS
         while not self.peer:
             if time.monotonic() > until:
@@ -118,7 +119,7 @@ class Caller:
             self.peer = self.fronts.connect()
 
     def receive(self, size):
-        """Receives `size` bytes, or fewer if the connection ends."""
+        """Returns the next `size` bytes, or fewer if the connection ends."""
         got = b""
         while len(got) < size and (piece := self.peer.recv(size - len(got))):
             got += piece
@@ -152,8 +153,8 @@ class Caller:
         return None if self.source.random() < 0.1 else reply
 
     def calls(self, call, method, *words):
-        """Makes a call, and records its effect on a model: this method with these arguments. Returns the
-        reply, or None."""
+        """Makes a call, and records it as an operation, whose effect on a model is this method with these
+        arguments. Returns the reply, or None."""
         self.connect()
         begun, until, reply = time.monotonic(), time.monotonic() + SECONDS, self.tries(call)
         while reply is None and self.repeats and time.monotonic() < until:
@@ -164,7 +165,7 @@ class Caller:
         self.operations.append(Operation(self.number, what, act, begun, ended, reply))
         return reply
 
-    # ---- the calls
+    # Each of the next methods makes one call, and returns its reply or None.
 
     def creates(self, name, mutable):
         call = v.create(v.name(name), capabilities(KEYS), entries(v.mutable, mutable))
@@ -196,7 +197,7 @@ def id_in(reply):
 
 
 def works_on(caller, text, name):
-    """Makes a random call for a volume."""
+    """Makes a random call for a volume, or lists all volumes."""
     source = caller.source
     node, mutable = source.choice(("n1", "n2")), {source.choice("ij"): source.choice("12")}
     source.choice((lambda: caller.creates(name, source.choice(({}, mutable))),
@@ -207,7 +208,7 @@ def works_on(caller, text, name):
 
 
 def works_alone(caller, name):
-    """A client with a volume of its own: it creates the volume, and makes random calls for it."""
+    """Creates a volume that no other client uses, and makes three random calls for it."""
     text = id_in(caller.creates(name, {}))
     for _ in range(3):
         works_on(caller, text, name)
@@ -224,7 +225,7 @@ def reads(caller):
 
 
 def clears(caller):
-    """Deletes all volumes, and creates one more, so that the next number is known."""
+    """Deletes all volumes, and then creates and deletes one more, so that the next number is known."""
     for text in sorted(set(re.findall(rb"vol-\d+", caller.lists()))):
         caller.unpublishes(text.decode(), "")
         caller.deletes(text.decode())
@@ -232,9 +233,10 @@ def clears(caller):
 
 
 def record(fronts, seed, is_shared, is_killed):
-    """Records a history of three clients: at most twelve calls at the same time, then one client deletes all
-    volumes. In a shared history all clients use one volume, and each try is an operation. Otherwise two
-    clients use a volume each, the third client reads, and a call with its repeats is an operation."""
+    """Returns the operations of a history of three clients: at most twelve calls at the same time, then one
+    client deletes all volumes. In a shared history all clients use one volume, and each try is an operation.
+    Otherwise two clients use a volume each, the third client reads, and a call with its repeats is an
+    operation."""
     operations, source = [], random.Random(seed)
     own = Caller(fronts, 3, operations, True, random.Random("%s own" % seed))
     callers = [Caller(fronts, number, operations, not is_shared, random.Random("%s %d" % (seed, number)))

@@ -11,7 +11,7 @@ OK = v.reply()
 
 
 class ChangeStore:
-    """A change store at a socket. It leads until a test says otherwise. Each connection has a thread."""
+    """A change store at a socket. It leads until a test sets `leads`. Each connection has a thread."""
 
     def __init__(self, path):
         self.path, self.peers, self.leads = path, [], True
@@ -30,7 +30,8 @@ class ChangeStore:
             threading.Thread(target=self.serve, args=(peer,), daemon=True).start()
 
     def serve(self, peer):
-        """Answers calls until a call has no reply."""
+        """Answers calls until the connection ends, or until a call has no reply. Then the connection is
+        closed."""
         with peer, peer.makefile("rb") as stream:
             while frame := next_frame(stream):
                 reply = (self.answer(*frame)
@@ -92,7 +93,7 @@ def page(*rows, token=b""):
 
 
 def fields(message):
-    """Returns the fields of a message of csid, each as its number and its value."""
+    """Returns the fields of a message, each as its number and its value. A value is a number or bytes."""
     found, at = [], 0
 
     def varint():
@@ -124,7 +125,8 @@ class KeptChangeStore(ChangeStore):
         super().__init__(path)
 
     def rows(self):
-        """Returns the rows of volumes, of attachments and of meta, in order (docs/TABLES.md)."""
+        """Returns the rows of volumes, of attachments and of meta (docs/TABLES.md), sorted by number and
+        node."""
         return ([(number, *it) for number, it in sorted(self.volumes.items())],
                 [(*place, *it) for place, it in sorted(self.attachments.items())], [(1, 2, self.next)])
 
@@ -156,7 +158,7 @@ class KeptChangeStore(ChangeStore):
         return page(*first, *rows[told:then], token=b"%d" % then if then < len(rows) else b"")
 
     def make(self, number, values):
-        """Makes a change, if the rows meet its condition."""
+        """Makes a change if the rows meet its condition. Returns True if the change was made."""
         at = values[0]
         if number == 1:
             name, size, pool, caps, params = values[1:]

@@ -1,4 +1,4 @@
-"""Configurations of csid."""
+"""Configurations of csid: the sample, its parts and changes, and configurations that are refused."""
 
 from tests.support.data import tables
 from tests.support.processes import fixture
@@ -10,7 +10,8 @@ LARGE_POOL = fixture("large-pool.toml")
 
 
 def sample(*changes):
-    """Returns the sample configuration, with the first occurrence of each text replaced."""
+    """Returns the sample configuration, with the first occurrence of each text replaced. Raises ValueError if
+    it lacks a text."""
     text = SAMPLE
     for old, new in changes:
         if old not in text:
@@ -24,7 +25,7 @@ NODES = SAMPLE[SAMPLE.index(b"[[node]]") :]
 SEGMENTS = b'segments = { zone = "a" }'
 
 
-# More pools and nodes, after those of the sample.
+# These make further pools and nodes for the sample.
 def pools(count):
     return b"".join(b'[[pool]]\nname = "q%d"\nbytes = 1048576\n' % number for number in range(count))
 

@@ -15,7 +15,8 @@ VERSION = pathlib.Path(TOP, "VERSION").read_text(encoding="utf-8").strip()
 
 
 class Line:
-    """Equals a text of one line that begins with `begin`, and has each of these parts after it."""
+    """Equals a text of one line that begins with `begin`, goes on after it, and there has each of these
+    parts."""
 
     def __init__(self, begin, *parts):
         self.begin, self.parts = begin, parts
@@ -31,7 +32,7 @@ class Line:
 
 
 class Shown:
-    """Equals a text with a line end that has each of these parts."""
+    """Equals a text that ends with a line end and has each of these parts."""
 
     def __init__(self, *parts):
         self.parts = parts
@@ -67,18 +68,19 @@ def run(words, stdout=subprocess.PIPE, **how):
 
 
 def text(came):
-    """Returns the same result with standard output as a text."""
+    """Returns a result of `run` with standard output as a text."""
     return came[0].decode(), came[1], came[2]
 
 
 class Server(Served):
-    """csid at a socket, with its file in the same folder."""
+    """csid at a socket, with its file in the same folder. `shell` is what the shell command that starts csid
+    has after csid's words, such as a redirection."""
 
     def __init__(self, csid, path, *words, tables=None, shell=None, **how):
         self.path, self.tables = path, path + ".db" if tables is None else tables
         command = [csid, "serve", "--socket", path, "--tables", self.tables, *words]
         self.begin(["sh", "-c", 'exec "$0" "$@" ' + shell, *command] if shell else command, **how)
-        # Its first line has the contents of the file, or why csid cannot read it.
+        # The first line of csid has the contents of the file, or why csid cannot read it.
         begun = "(?m)^csid: (%s: volumes .*|out of memory|.*%s)\n" % (re.escape(self.tables), NO_FILE)
         wait(lambda: (os.path.exists(path) if shell else re.search(begun, self.lines()))
              or self.process.poll() is not None)
@@ -89,7 +91,8 @@ class Server(Served):
         return self.end()
 
     def end(self):
-        """Ends csid. Returns its lines, without the line about the contents of the file, and its status."""
+        """Waits until csid has ended, and removes its socket. Returns its lines, without the line about the
+        contents of the file, and its status."""
         self.process.wait(timeout=SECONDS)
         os.unlink(self.path)
         held = "(?m)^csid: %s: (%s|volumes .*)\n" % (re.escape(self.tables), NEW)
@@ -98,11 +101,11 @@ class Server(Served):
 
 NOT_THERE = "No such file or directory (os error 2)"
 
-# The reason if a file of tables cannot be opened (docs/TABLES.md).
+# The reasons why a file of tables cannot be used (docs/TABLES.md).
 NO_FILE = "unable to open database file"
 NO_DATABASE = "file is not a database that obeys its schema"
 
 
-# An entry of 'vol-N' of 1 MiB without attachments, in bytes and in JSON.
+# An entry of 'vol-N' of 1 MiB without attachments, in hexadecimal.
 def entry(number):
     return "0a28" + VOL_1.replace("766f6c2d31", "766f6c2d3%d" % number) + "1200"

@@ -9,7 +9,7 @@ WORD = re.compile(r"([A-Z]\w*) = (.*)")
 
 
 def numbered(file):
-    """Returns the rows of a file as lists of the number of the first line and the text."""
+    """Returns each row of a file as a list of two: the number of its first line, and its text."""
     rows = []
     for number, line in enumerate(file, 1):
         if line.startswith("    "):

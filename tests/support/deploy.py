@@ -55,7 +55,7 @@ def toml(text):
 
 
 def documents(name):
-    """Returns the objects of a manifest, in order."""
+    """Returns the objects of a manifest in the order of the file. Skips the test without python's yaml."""
     try:
         import yaml
     except ImportError:
@@ -64,8 +64,8 @@ def documents(name):
 
 
 class Unit:
-    """A unit of systemd, possibly with a drop-in, as the values of its keys. An empty value removes the
-    earlier values."""
+    """A unit of systemd, possibly with drop-ins: the values of its keys. An empty value removes the earlier
+    values of its key."""
 
     def __init__(self, name, *differences):
         text = "\n".join(re.sub(r"\\\n\s*", "", read(it)) for it in [name, *differences])
@@ -153,7 +153,7 @@ def mounts(container):
 
 
 def plain(command):
-    """Returns the words of a program that tini starts, possibly through a shell."""
+    """Returns the words of a program, without the words of tini and of a shell that start it."""
     words = command[command.index("--") + 1 :] if command[0] == "tini" else command
     if words[:2] == ["sh", "-c"]:
         words = shlex.split(words[2].rsplit("exec ", 1)[1])
@@ -169,7 +169,8 @@ def seconds(text):
 
 
 def commands():
-    """Returns the commands of csid and of the front, for each file of deploy/ that starts them."""
+    """Yields the commands of csid and of the front for each file of deploy/ that starts them. The manifest is
+    left out without python's yaml."""
     units = [Unit(name).words() for name in UNITS]
     nomad = Nomad()
     yield "the units", units[0], units[1]
@@ -187,8 +188,8 @@ def shell(command):
 
 
 def etcd_commands():
-    """Returns the commands of csid-etcd, csid and the front over etcd, for each file of deploy/ that starts
-    them, and the commands of csid and the front over a file."""
+    """Yields for each file of deploy/ over etcd the commands of csid-etcd, csid and the front, and the
+    commands of csid and the front over a file. The manifest is left out without python's yaml."""
     plainly = [Unit(name).words() for name in UNITS]
     yield "the units over etcd", Unit(ETCD_UNIT).words(), *[over_etcd(name).words()
                                                             for name in UNITS], plainly
@@ -202,13 +203,14 @@ def etcd_commands():
 
 
 def without(words, option, count=2):
-    """Returns the words without an option and its values."""
+    """Returns the words without an option and its values, which are `count` words together."""
     at = words.index(option)
     return words[:at] + words[at + count :]
 
 
 def first_steps():
-    """Returns the scripts or commands that make the file of volumes, each with the path of csid serve."""
+    """Yields the scripts or commands that make the file of volumes, each with the file that `csid serve` then
+    gets. The manifest is left out without python's yaml."""
     unit, nomad = Unit(FIRST), Nomad()
     yield "the units", " ".join(unit.words()).replace("/usr/local/bin/", ""), value(
         Unit(UNITS[0]).words(), "--tables"
@@ -232,7 +234,7 @@ def help_of(program, *words):
 
 
 def over_log(csid):
-    """Returns the options of a csid over a change store."""
+    """Returns the help of `csid serve`. Skips the test if csid has no --log."""
     text = help_of(csid, "serve")
     if "--log" not in text:
         raise unittest.SkipTest("%s has no --log" % csid)
@@ -293,10 +295,11 @@ class Pod:
                                                 env=self.variables(**given), stderr=subprocess.DEVNULL)
 
     def ends(self, name):
-        """Returns True if SIGTERM to the first process ends a container."""
+        """Sends SIGTERM to the first process of a container. Returns True if the container then ends within
+        15 seconds."""
         process = self.processes[name]
         with open("/proc/%d/task/%d/children" % (process.pid, process.pid)) as children:
             first = int(children.read().split()[0])
         os.kill(first, signal.SIGTERM)
-        # The front takes at most 20 s to end, for unfinished calls.
+        # The front takes up to 20 s to end only if there are unfinished calls.
         return wait(lambda: process.poll() is not None, seconds=15)

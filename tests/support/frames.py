@@ -45,7 +45,7 @@ OF_Q1 = unhex("0a24 08808040 1205 766f6c2d31 1a0a 0a04706f6f6c 12027131 2a0b 0a0
 
 
 def listed(number, *nodes):
-    """Returns an entry of a page: a volume like 'vol-1', and its nodes."""
+    """Returns an entry of a page: a volume like 'vol-1', and its nodes, whose ids have two bytes."""
     at = b"".join(b"\x0a\x02" + node for node in nodes)
     entry = VOLUME_1.replace(b"vol-1", b"vol-%d" % number) + bytes([0x12, len(at)]) + at
     return bytes([0x0A, len(entry)]) + entry

@@ -13,7 +13,7 @@ NEVER = math.inf
 
 
 def begins_first(operation, left):
-    """Returns True if this operation began before any of the others was answered."""
+    """Returns True if no operation in `left` was answered before this operation began."""
     return all(it.reply is None or operation.begun <= it.ended for it in left)
 
 
@@ -34,7 +34,8 @@ def linearization(operations, model):
             reply = operation.act(after)
             if operation.reply not in (None, reply):
                 continue
-            # A call without a reply that ended before this one began took effect before it, or never.
+            # If a call without a reply ended before this operation began, it took effect before this
+            # operation, or never.
             others = left[:at] + left[at + 1 :]
             rest = tuple(it for it in others if it.reply is not None or it.ended >= operation.begun)
             place = (tuple(map(id, rest)), after.state())

@@ -21,7 +21,7 @@ SINGLE, SHARED, ONE_WRITER, WRITERS, SINGLE_WRITER, MULTI_WRITER = 1, 3, 4, 5, 6
 
 
 def capability(key):
-    """Returns the parts of the message of a capability with this key."""
+    """Returns the fields of a capability with this key."""
     kind, fs, mode = key
     return v.mount(mode, *[v.fs_type(fs)] * bool(fs)) if kind else v.block(mode)
 
@@ -31,12 +31,13 @@ def capabilities(keys):
 
 
 def entries(field, pairs):
-    """Returns the fields for the entries of a map."""
+    """Returns the fields for the entries of a map, sorted by key."""
     return b"".join(field(key, value) for key, value in sorted(pairs.items()))
 
 
 def serves(pool, term):
-    """Returns True if one of the two contains the other, if the case of letters in keys is ignored."""
+    """Returns True if the segments of the pool contain the term, or the term contains them. Upper and lower
+    case are the same in keys."""
     segments, term = {("zone", pool.zone)}, {(key.lower(), value) for key, value in term.items()}
     return segments <= term or term <= segments
 
@@ -211,7 +212,7 @@ class Model:
 
 
 class Requests:
-    """Random requests, each with a call and the model's answer."""
+    """Random requests. A request is a call, the model's reply, and a description of what happened."""
 
     def __init__(self, seed, model):
         self.random, self.model = random.Random(seed), model
@@ -220,7 +221,7 @@ class Requests:
         return self.random.choice(values)
 
     def id(self):
-        """Returns the id of a volume: mostly of an existing volume, otherwise of another one, or a text that
+        """Returns the id of an existing volume in most cases, otherwise the id of any volume, or a text that
         is not an id."""
         number = self.one_of(*[it.number for it in self.model.volumes] or [self.model.next])
         return self.one_of("vol-0%d" % number, str(number),
@@ -240,8 +241,8 @@ class Requests:
         return {} if self.one_of(*range(6)) else {"k": self.one_of("1", "2")}
 
     def mutable(self):
-        """Returns mutable parameters: few keys, mostly with short values. Two of the long values are too long
-        for one volume."""
+        """Returns mutable parameters: few keys, with short or long values. Two long values are too long for
+        one volume."""
         value = self.one_of("1", "1", "2", *["x" * (MAP_BYTES // 2)] * 3)
         return self.one_of({}, {"i": value}, {"j": value}, {"i": "1", "j": value})
 
@@ -257,8 +258,8 @@ class Requests:
                            (0, 0))
 
     def topology(self):
-        """Returns topology requirements: one requisite or one preferred term, or two requisite terms of which
-        the first is preferred."""
+        """Returns topology requirements: mostly none, otherwise one requisite or one preferred term, or two
+        requisite terms of which the first is preferred."""
         one, other = self.term(), self.term()
         return self.one_of(([one], []), ([], [one]), ([one, other], [one]), *[([], [])] * 6)
 

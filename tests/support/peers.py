@@ -14,8 +14,8 @@ CLOSED, RESET, SILENT = b"", "reset", "silent"
 
 
 class PlayedServer:
-    """A server at a socket, with a thread that takes a connection for each part of a script. It keeps the
-    calls."""
+    """A server at a socket, with a thread that takes a connection for each part of a script. `calls` has the
+    calls that it gets, and `moments` the times of the connections."""
 
     def __init__(self, folder, script):
         self.path, self.script, self.calls, self.moments = os.path.join(folder, "played.sock"), script, [], []
@@ -55,12 +55,13 @@ class PlayedServer:
         return self.calls
 
     def pauses(self):
-        """Returns the seconds between the connections."""
+        """Returns the seconds from the start of each connection to the start of the next one."""
         return [later - earlier for earlier, later in zip(self.moments, self.moments[1:])]
 
 
 class Peer(PlayedServer):
-    """A server that does one thing on each connection."""
+    """A server that takes one part of its script on each connection: it reads all calls and sends the part as
+    the reply, or does what CLOSED, RESET or SILENT says."""
 
     def __init__(self, folder, script):
         self.silent = []
@@ -102,7 +103,8 @@ def next_call(calls):
 
 
 class Pages(PlayedServer):
-    """A server that answers the calls of a connection in order. At CLOSED it closes the connection."""
+    """A server that answers the calls of a connection with the replies of a part, in order. At CLOSED it
+    closes the connection."""
 
     def play(self, peer, part):
         with peer, peer.makefile("rb") as calls:

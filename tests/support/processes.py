@@ -1,4 +1,4 @@
-"""Runs programs, and makes their files."""
+"""Runs programs for the tests: with limits, as another user, or on a small disk."""
 
 import contextlib
 import os
@@ -37,7 +37,7 @@ def place(name):
 
 
 def program(name):
-    """Returns the path of a built program."""
+    """Returns the path of a built program. Raises FileNotFoundError if it is not built."""
     path = place(name)
     if not os.access(path, os.X_OK):
         raise FileNotFoundError("no program at %s: ./build makes it" % path)
@@ -50,7 +50,7 @@ def fixture(name):
 
 
 class Shown:
-    """Equals a text with a line end that has each of these parts."""
+    """Equals bytes that end with a line end and have each of these parts."""
 
     def __init__(self, *parts):
         self.parts = parts
@@ -90,8 +90,8 @@ def with_shell(csid, redirection, given):
     return run(["sh", "-c", 'exec "$0" ' + redirection, csid], input=given)
 
 
-# Enough memory for csid over the file below, but not for a copy of the file: 1,000 volumes with parameters of
-# 4,096 bytes in 1,024 entries.
+# Enough memory for csid over a file of 1,000 volumes with parameters of 4,096 bytes in 1,024 entries, but not
+# for a copy of this file.
 def some_memory():
     resource.setrlimit(resource.RLIMIT_DATA, (48 << 20, 48 << 20))
 
@@ -110,7 +110,7 @@ def memory_of(size):
 
 
 def statuses(peer, count):
-    """Returns the statuses of the next `count` replies on a connection, or fewer if it ends."""
+    """Returns the statuses of the next `count` replies on a connection, or fewer if the connection ends."""
     held, came = b"", []
     while len(came) < count:
         piece = peer.recv(1 << 16)
@@ -136,7 +136,8 @@ def as_nobody():
 
 
 def fill(folder):
-    """Fills the disk of a folder to the last byte. The file that this writes can be removed to make room."""
+    """Fills the disk of a folder. Returns the path of the file that fills it, which can be removed to make
+    room."""
     path = os.path.join(folder, "filler")
     try:
         with open(path, "wb", buffering=0) as file:
@@ -161,7 +162,7 @@ def little_room():
 
 
 def wait(happens, seconds=SECONDS, pause=0.01):
-    """Returns True if something happens in time."""
+    """Calls `happens` until it returns a true value, and returns True. Returns False after `seconds`."""
     end = time.monotonic() + seconds
     while not happens():
         if time.monotonic() > end:
@@ -198,8 +199,8 @@ def read(path):
 
 @contextlib.contextmanager
 def small_disk(folder):
-    """Makes a file system of 1 MiB in memory, in a new folder. If mounting is not possible, the test is
-    skipped."""
+    """Makes a file system of 1 MiB in memory, in a new folder, until the block ends. If mounting is not
+    possible, the test is skipped."""
     disk = os.path.join(folder, "disk")
     os.mkdir(disk)
     try:
@@ -215,8 +216,9 @@ def small_disk(folder):
 
 
 def copy_for_nobody(csid, folder):
-    """Copies csid for the user `nobody`, since root may read every file. Returns the path, and the function
-    that changes the user. If that is not possible, the test is skipped."""
+    """Copies csid for the user `nobody`, since root may read every file. Returns the path of the copy, and
+    the arguments of `run` that change the user from root to `nobody`. If that is not possible, the test is
+    skipped."""
     os.chmod(folder, 0o777)
     copy = shutil.copy(csid, os.path.join(folder, "csid"))
     os.chmod(copy, 0o755)

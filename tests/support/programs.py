@@ -86,7 +86,7 @@ class Run:
 
 
 class Program:
-    """A program with a socket. It is started again after it has ended."""
+    """A program with a socket. `revive` starts it again if it has ended."""
 
     def __init__(self, run, socket_name, *words, clocks=None, **how):
         self.run, self.socket, self.words, self.clocks, self.how = (run, run.path(socket_name), words, clocks,
@@ -99,7 +99,8 @@ class Program:
             os.unlink(self.socket)
         if self.clocks:
             self.clocks()
-        # With a function before the start Python forks, so that the program is in the namespace of clocks.
+        # If a function is to run before the program, Python forks. Only then is the program in the new
+        # namespace of clocks.
         forked = {"preexec_fn": lambda: None} if self.clocks else {}
         self.process = subprocess.Popen(self.words, stdin=subprocess.DEVNULL, stdout=subprocess.DEVNULL,
                                         stderr=self.said, **forked, **self.how)
@@ -168,7 +169,8 @@ class Etcd(etcd.Etcd):
             self.start()
 
     def ask(self, what, begin, end=None, **how):
-        """Reads or removes a range of keys. Returns the keys with their values and revisions."""
+        """Reads a range of keys (`range`), or removes it (`deleterange`). Returns the keys that it reads,
+        with their values and revisions."""
         body, told = {
             "key": base64.b64encode(begin).decode(),
             "range_end": base64.b64encode(end or begin[:-1] + bytes([begin[-1] + 1])).decode(),
@@ -191,7 +193,7 @@ class Etcd(etcd.Etcd):
                 for it in told.get("kvs", [])}
 
     def rows(self, **how):
-        """Returns each row, with its revision."""
+        """Returns each row with its value and its revision, without the keys of the lock."""
         return {key: it
                 for key, it in self.ask("range", NAME.encode() + b"/", **how).items()
                 if not key.startswith(NAME + "/lock/")}
@@ -247,7 +249,8 @@ def exchange(peer, pieces, seconds=SECONDS):
 
 
 def asked(path, *calls, seconds=SECONDS):
-    """Makes calls on a new connection. Returns the replies, or None if they do not come."""
+    """Makes calls on a new connection. Returns the replies, or None if no connection can be made, the
+    connection does not end, or the replies are malformed."""
     peer = connected(path, seconds)
     if peer is None:
         return None
@@ -257,7 +260,8 @@ def asked(path, *calls, seconds=SECONDS):
 
 
 class Frames:
-    """A client of csid."""
+    """A client of csid on one connection. A reply is a body, or None if the call is refused, and a text with
+    the status. Without a reply, `ask` raises OSError."""
 
     def __init__(self, path, seconds=SECONDS):
         self.peer = connected(path, seconds)
@@ -318,7 +322,8 @@ class Grpc:
 
 
 def once(path, method, message, seconds):
-    """Makes a call on a new connection. Returns the body, or None."""
+    """Makes a gRPC call on a new connection. Returns the body, or None if the call is refused or not
+    answered."""
     try:
         client = Grpc(path, seconds)
         try:

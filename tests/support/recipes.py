@@ -118,7 +118,7 @@ class Control:
             wait(lambda: "csid-etcd: leads, " in read(self.lines(unit)) or process.poll() is not None)
 
     def lines(self, unit):
-        """Returns the lines of a unit, as the journal would have them."""
+        """Returns the path of the file that has the lines of a unit, in place of the journal."""
         return os.path.join(self.top, unit + ".errors")
 
     def stop(self, unit):
@@ -179,7 +179,8 @@ class Cluster(Control):
         open(self.pods + "csid-tables", "x").close()
 
     def begin_statefulset(self):
-        """The ConfigMap and the first step make the file."""
+        """Writes the configuration, runs the first step, which makes the file, and starts csid and the front.
+        """
         self.configure()
         for first in self.object("statefulset")["spec"]["template"]["spec"]["initContainers"]:
             below = [re.sub("/var/lib/csid|/etc/csid", lambda it: self.top + it.group(), word)
@@ -190,7 +191,8 @@ class Cluster(Control):
         self.begin_units("csid", "csid-front")
 
     def begin_deployment(self):
-        """Rows are imported, so no file is made."""
+        """Writes the configuration, and starts csid and the front over csid-etcd. Rows are imported, so no
+        file is made."""
         assert "new" not in self.object("configmap")["data"]
         self.configure()
         open(self.over_etcd, "x").close()
@@ -201,16 +203,16 @@ class Cluster(Control):
             file.write(self.object("configmap")["data"]["config.toml"])
 
     def begin_units(self, *units):
-        """Two csid must not serve at the same time, and none may serve next to the pod that mounts the claim.
-        """
+        """Starts units as the pod csid-0. No other pod may exist: two csid must not serve at the same time,
+        and none may serve next to the pod that mounts the claim."""
         assert not os.listdir(self.pods), "a pod is there: %s" % os.listdir(self.pods)
         open(self.pods + "csid-0", "x").close()
         for unit in units:
             self.start(unit)
 
     def scale(self, *words):
-        """Changes the number of pods. The pod ends after this call, and answers calls until then. A further
-        call starts it again."""
+        """Changes the number of pods to 0 or 1. For 0 the pod ends after this call, and answers calls until
+        then. For 1 a pod is started."""
         if words == ("statefulset", "csid", "--replicas", "1"):
             return self.begin_statefulset()
         assert words[1:] == ("csid", "--replicas", "0") and os.path.exists(self.objects + words[0]), words
@@ -218,7 +220,8 @@ class Cluster(Control):
                          stdout=subprocess.DEVNULL, stderr=subprocess.DEVNULL, start_new_session=True)
 
     def end_units(self):
-        """Ends csid during a connection, so the last changes are only in the WAL of its file."""
+        """Ends the pod. csid ends during a connection, so the last changes are only in the WAL of its file.
+        """
         time.sleep(0.5)
         self.stop("csid-front")
         frames = os.path.join(self.top, "frames")
@@ -241,7 +244,8 @@ class Cluster(Control):
         wait(lambda: os.path.exists(self.pods + name) == is_there)
 
     def exec(self, *words):
-        """Runs a command in the pod with the claim, with input if the recipe asks for it."""
+        """Runs a command in the pod with the claim, with input if the recipe asks for it. Ends the script
+        with the status of the command."""
         *options, pod = words[: words.index("--")]
         assert os.path.exists(self.pods + pod), pod
         sys.exit(subprocess.run(words[words.index("--") + 1 :],
@@ -291,7 +295,7 @@ def wait(happens):
 
 
 class Place:
-    """A folder for recipes, with a csid over a file without volumes."""
+    """A folder for recipes, with a csid over a file without volumes if it `is_new`."""
 
     def __init__(self, csictl, csid, is_new=True, **more):
         self.top = tempfile.mkdtemp()
@@ -327,7 +331,7 @@ class Place:
         pathlib.Path(self.top + "/etc/csid/config.toml" + ending).write_text(config(pools, nodes))
 
     def front_calls(self, *calls, name="frames"):
-        """The calls that csid-front makes after its start."""
+        """Writes the calls that csid-front makes after its start."""
         with open(os.path.join(self.top, name), "w") as file:
             for words in calls:
                 file.write(self.frame(*words).hex() + "\n")
@@ -337,7 +341,7 @@ class Place:
                               capture_output=True, check=True).stdout
 
     def shell(self, text, **variables):
-        """Runs commands in bash below the folder. Returns the output and the status."""
+        """Runs commands in bash below the folder. Returns the output, the errors and the status."""
         text = re.sub(r"(?<![\w/.$])(%s)(?=[/\s;\"']|-)" % "|".join(FOLDERS),
                       lambda found: self.top + found.group(1), text)
         done = subprocess.run(["bash", "-euo", "pipefail", "-c", text], env={**self.variables, **variables},
@@ -350,19 +354,21 @@ class Place:
         assert said[2] == 0, (text, said)
 
     def recipe(self, heading, number=0, page="OPERATING.md", **variables):
-        """Runs a block of a recipe in the folder of the file. Returns the output."""
+        """Runs a block of a recipe in the folder of the file. Returns the output, the errors and the status.
+        """
         return self.shell(blocks("## Copies and restores")[0] + blocks(heading, page)[number], **variables)
 
     def in_folder(self, command):
-        """Runs a command of the page in the folder of the file. Returns the output."""
+        """Runs a command of the page in the folder of the file. Returns the output, the errors and the
+        status."""
         return self.shell(blocks("## Copies and restores")[0] + stands(command))
 
     def check(self):
-        """Returns the output of a check of the file."""
+        """Checks the file. Returns the output, the errors and the status of the check."""
         return self.in_folder("csid --check-tables volumes.db --config $config")
 
     def call(self, *words):
-        """Makes a call by csictl. Returns its output without the bytes."""
+        """Makes a call by csictl. Returns its output without the bytes of the reply."""
         out = self.shell("csictl call --socket /run/csid/csid.sock --method " + " ".join(words))[0]
         return re.sub(r"^0 OK \S+", "0 OK", out)
 
@@ -399,7 +405,7 @@ def publish(volume, node):
 
 
 def has(volumes, attachments, number, format=2):
-    """Returns the line of a check of the file."""
+    """Returns the line that a check prints for a file with these counts."""
     return "volumes %d, attachments %d, next number %d, format %d\n" % (volumes, attachments, number, format)
 
 
@@ -427,7 +433,7 @@ PLUGIN, NODE = "pools.example.org", "n'2/é \U0001d11e"
 
 
 class RecipeTest(RowTest):
-    """A test of recipes. They need sqlite3."""
+    """A test of recipes. It is skipped if sqlite3 is not installed."""
 
     def setUp(self):
         super().setUp()

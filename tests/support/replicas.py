@@ -13,8 +13,8 @@ from tests.support.etcd import Etcd
 from tests.support.processes import SECONDS, wait
 
 NAME, LEASE = "pools.example.org", 2
-# The ways to end csid, or csid-etcd by a signal. After SIGTERM csid-etcd releases the lock at once, otherwise
-# it keeps the lock until its lease ends.
+# The faults of the replica that serves, in turn: csid is killed, or csid-etcd gets a signal. After SIGTERM
+# csid-etcd releases the lock at once, otherwise it keeps the lock until its lease ends.
 FAULTS = ["csid", signal.SIGTERM, signal.SIGKILL, signal.SIGTERM, signal.SIGSTOP]
 
 
@@ -29,7 +29,8 @@ def listens(path):
 
 
 class Replica:
-    """A csid over a csid-etcd. Both can be started again. `words` are further arguments of csid."""
+    """A csid over a csid-etcd. Each of the two programs can be started again. `words` are further arguments
+    of csid."""
 
     def __init__(self, programs, folder, number, etcd, *words):
         self.csid_program, self.keeper_program = programs
@@ -100,10 +101,9 @@ class Stack(Replica):
 
 
 class Stacks(Fronts):
-    """Two stacks over one etcd, of which one serves at a time. With `is_apart` each has its own etcd, and
-    both serve. A change without a reply is made before the next call is served, or never (docs/PROTOCOL.md,
-    "The change store"). So a call ends when its client gives up, although csid-etcd may still make its
-    change."""
+    """Two stacks over one etcd, of which one serves at a time, or with `is_apart` each over its own etcd. A
+    change without a reply is made before the next call is served, or never (docs/PROTOCOL.md, "The change
+    store"). So a call ends when its client gives up, although csid-etcd may still make its change."""
 
     # A program is ended in three of ten histories, with equal shares for both kinds of history.
     killed = (2, 5, 8, 11, 14, 17)
@@ -122,7 +122,7 @@ class Stacks(Fronts):
         self.leader, self.takeovers = self.leads(), 0
 
     def leads(self):
-        """Waits for the stack that serves, and returns it."""
+        """Waits for the stack that serves, and returns it. Raises TimeoutError if none serves in time."""
         until = time.monotonic() + SECONDS
         while not (peer := self.connect()):
             if time.monotonic() > until:

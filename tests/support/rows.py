@@ -17,7 +17,7 @@ MOST_SHOWN = 300
 
 
 def shown(part):
-    """Returns a value as it is shown in a failure."""
+    """Returns a value as a text for a failure. Bytes are in hexadecimal, and a long text is cut off."""
     if isinstance(part, tuple):
         return "(%s)" % ", ".join(map(shown, part))
     text = "hex " + part.hex() if isinstance(part, bytes) else repr(part)
@@ -29,8 +29,8 @@ def fail_late(*_):
 
 
 def each(rows):
-    """Makes a test of each row. The method with the columns as parameters becomes methods whose names end in
-    the first column."""
+    """Returns a decorator that makes a test of each row. The columns are the parameters of the method, and
+    the name of the test ends in the first column."""
 
     def mark(method):
         method.rows = [row if isinstance(row, tuple) else (row,) for row in rows]
@@ -49,7 +49,7 @@ def test_of(method, row):
 
 
 class RowTest(unittest.TestCase):
-    """A test whose cases are rows. It has a folder, and may take at most `longest` seconds."""
+    """A test whose cases are rows. It has a folder, and fails after `longest` seconds."""
 
     longest = 10 * SECONDS
 
@@ -65,14 +65,15 @@ class RowTest(unittest.TestCase):
         folder = tempfile.TemporaryDirectory()
         self.addCleanup(folder.cleanup)
         self.folder = folder.name
-        # The lines of a server go to a file without a name, which is closed at the end of the test.
+        # The file with the lines of a server is closed only when the server object goes, and Python would
+        # warn of this.
         warnings.simplefilter("ignore", ResourceWarning)
         signal.signal(signal.SIGALRM, fail_late)
         signal.alarm(self.longest)
         self.addCleanup(signal.alarm, 0)
 
     def check(self, name, got, want):
-        """Compares a result with the expected result."""
+        """Fails the subtest `name` if `got` and `want` differ."""
         with self.subTest(name=name):
             if got != want:
                 self.fail("got:  %s\nwant: %s" % (shown(got), shown(want)))
@@ -108,7 +109,7 @@ class CsidTest(RowTest):
         self.tables, self.config = Tables(self.csid, self.folder), os.path.join(self.folder, "config.toml")
 
     def serve(self, *words, **how):
-        """Starts a server over the tables. It ends with the test."""
+        """Starts a server over the tables, and returns it. The server ends with the test."""
         server = Server(self.csid, self.folder, *words, **how)
         self.addCleanup(server.end)
         return server
@@ -126,7 +127,7 @@ class CsictlTest(CsidTest):
 
 
 class ProgramTest(RowTest):
-    """A test of several programs. It is skipped if one is missing."""
+    """A test of several programs. Their paths are set, but the programs may be missing."""
 
     def setUp(self):
         super().setUp()

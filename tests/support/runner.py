@@ -17,7 +17,8 @@ LONGEST = ["test_csid_peers", "test_histories", "test_recipes", "test_recipes_et
 
 @dataclasses.dataclass
 class Report:
-    """A test of another process, for the lists of a result. A failure in a class's setup has no name."""
+    """A test that ran in another process, as an entry of the lists of a result. The name is None for a
+    failure in a class's setup."""
 
     description: str
     name: str
@@ -46,7 +47,7 @@ class Outcome:
 
 
 class Text(io.StringIO):
-    """The stream of a result."""
+    """A text in memory, with the method `writeln` that a result calls."""
 
     def writeln(self, line=""):
         self.write(line + "\n")
@@ -61,7 +62,7 @@ def reports(result, found):
 
 
 def run_suite(suite, verbosity, settings):
-    """Runs a suite in this process."""
+    """Runs a suite in this process. Returns its outcome. `settings` are attributes of the result."""
     result, begin = unittest.TextTestResult(Text(), True, verbosity), time.monotonic()
     vars(result).update(settings)
     suite.run(result)
@@ -77,7 +78,8 @@ def send_outcome(sender, names, filters, *how):
 
 
 def run_apart(name, tests, *how):
-    """Runs the tests of a class in another process."""
+    """Runs the tests of a class in another process. Returns their outcome, or an outcome with one error if
+    the process ends without an outcome."""
     context = multiprocessing.get_context("spawn")
     receiver, sender = context.Pipe(duplex=False)
     process = context.Process(target=send_outcome, args=(sender, [test.id() for test in tests], *how))
@@ -94,7 +96,8 @@ def run_apart(name, tests, *how):
 
 
 def by_class(suite, classes):
-    """Adds each test of nested suites to the list of its class."""
+    """Adds each test of nested suites to `classes`, which has a list for each class, and returns `classes`.
+    """
     for test in suite:
         if isinstance(test, unittest.TestSuite):
             by_class(test, classes)
@@ -110,7 +113,7 @@ def place(name):
 
 
 class Runner(unittest.TextTestRunner):
-    """Runs the classes of a suite side by side, and prints a line when one has ended."""
+    """Runs the classes of a suite side by side, and prints a line when a class has ended."""
 
     def run(self, suite):
         classes = by_class(suite, collections.defaultdict(list))
@@ -124,7 +127,8 @@ class Runner(unittest.TextTestRunner):
         return super().run(run)
 
     def run_classes(self, classes, result):
-        """Adds the outcomes of the classes to a result, in the order of the suite."""
+        """Adds the outcomes of the classes to a result, in the order of the suite. With `failfast`, no class
+        is started after a failed one."""
         settings = {it: getattr(result, it) for it in ("buffer", "failfast", "tb_locals")}
         pool, runs, outcomes = concurrent.futures.ThreadPoolExecutor(len(os.sched_getaffinity(0))), {}, {}
         for name in sorted(classes, key=place):

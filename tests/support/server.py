@@ -43,7 +43,7 @@ def received(peer):
 
 
 class Served:
-    """A csid with a socket at `path`. Its lines go to a file."""
+    """A csid with a socket at `path`. The lines of csid go to a file."""
 
     def begin(self, words, **how):
         self.said = tempfile.TemporaryFile()
@@ -61,7 +61,8 @@ class Served:
         return peer
 
     def ask(self, *calls):
-        """Makes calls on a new connection. Returns all bytes that come back."""
+        """Makes calls on a new connection. Returns all bytes that come back, or none if csid closes the
+        connection before it has all calls."""
         with self.connect() as peer, contextlib.suppress(BrokenPipeError, ConnectionResetError):
             peer.sendall(b"".join(calls))
             peer.shutdown(socket.SHUT_WR)
@@ -81,13 +82,13 @@ class Server(Served):
         self.tables = tables or os.path.join(folder, "volumes.db")
         words = [csid, "serve", "--socket", self.path, "--tables", self.tables, *words]
         self.begin(words, stdout=subprocess.DEVNULL, **how)
-        # Before it takes the first connection it reports what the tables have, or why they are unusable.
+        # Before csid takes the first connection, it reports what the tables have, or why they are unusable.
         told = re.compile("(?m)^csid: %s: (?!%s).*\n" % (re.escape(self.tables), NEW))
         if not wait(lambda: told.search(self.lines()) or self.process.poll() is not None):
             raise ValueError("csid serve does not begin")
 
     def answers(self, calls):
-        """Makes calls over one connection while it reads replies. Returns their statuses."""
+        """Makes calls over one connection, and reads the replies at the same time. Returns their statuses."""
         with self.connect() as peer:
             threading.Thread(target=lambda: [peer.sendall(it) for it in calls], daemon=True).start()
             return statuses(peer, len(calls))
@@ -101,7 +102,8 @@ class Server(Served):
         return self.line("volumes %d, attachments %d, next number %d, format 2" % counts)
 
     def end(self):
-        """Ends csid. Returns all its lines, its status, and True if its socket is left."""
+        """Ends csid, and removes its socket. Returns all its lines, its status, and True if it had left its
+        socket."""
         if self.process.poll() is None:
             self.process.kill()
         status = self.process.wait()
@@ -115,8 +117,8 @@ KILLED = -signal.SIGKILL
 
 
 def ended(lines, line):
-    """Counts ended connections by their way of ending: the lines that equal `line` under "of a line", and the
-    numbers in lines with counts under the words of these lines."""
+    """Returns the numbers of ended connections by their way of ending: the lines that equal `line` under "of
+    a line", and the numbers in lines with counts under the words of these lines."""
     counts = collections.Counter({"of a line": lines.count(line)})
     for told in re.findall(r"(?m)^csid: \d+ more connections ended: (.*)$", lines):
         for part in told.split(", "):

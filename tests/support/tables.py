@@ -33,7 +33,8 @@ def next_is(number):
 
 NEXT_9 = next_is(9)
 A = volume(1) + NEXT_9
-# 1 MiB of capabilities, and many attachments with the first of them, at nodes that no configuration has.
+# 1 MiB of capabilities, and statements with a count to fill in. They insert attachments with the first of
+# these capabilities, at nodes that no configuration has, or volumes with capabilities to fill in.
 LARGE_CAPS = ("x'%s'" % b"".join(b"\x1a\x0d\x12\x07\x0a\x05%05d\x1a\x02\x08\x01" % n
                                  for n in range(MIB // 15)).hex())
 PLACES = ("WITH RECURSIVE n (i) AS (VALUES (1) UNION ALL SELECT i + 1 FROM n WHERE i < %d) "
@@ -78,13 +79,13 @@ BESIDE = "the volume is attached at another node too, and the two cannot have it
 
 
 def block(mode):
-    """Returns the cell of a capability: a block device with a mode below 128."""
+    """Returns the hexadecimal digits of a capability: a block device with a mode below 128."""
     return "1a060a001a0208%02x" % mode
 
 
 def pairs(field, key, size):
-    """Returns a field of parameters with one entry: a key of one byte, and a value of 4,093 to 16,000 bytes.
-    """
+    """Returns the hexadecimal digits of a field of parameters with one entry: a key of one byte, and a value
+    of 128 to 16,000 bytes."""
 
     def long(tag, length):
         return bytes([tag, length & 127 | 128, length >> 7])
@@ -114,7 +115,8 @@ class Tables:
         return run(self.command + (["--config", config] if config else []), input=given, **how)
 
     def new(self):
-        """Has csid make new tables."""
+        """Removes the files, and has csid make new tables. Returns this object. Raises ValueError if csid
+        makes none."""
         if self.clear().run() != (b"", "", 0):
             raise ValueError("no tables could be made")
         return self
@@ -135,7 +137,7 @@ class Tables:
         return run([self.csid, "--check-tables", self.path] + (["--config", config] if config else []), **how)
 
     def files(self):
-        """Returns the bytes of the file, and of all files next to it."""
+        """Returns the bytes of the file and of its WAL by name, for those that exist."""
         found = {}
         for name in sorted(os.listdir(os.path.dirname(self.path))):
             if name.startswith(os.path.basename(self.path)):

@@ -136,7 +136,7 @@ class Disk:
         return lambda: [os.rename(place, path) for path, place in moved]
 
     def without_log(self, source):
-        """The WAL is removed between two runs, after its contents are in the file."""
+        """Ends csid and removes the WAL, if its contents are in the file within a second."""
         log = self.file + "-wal"
         if os.path.exists(log) and wait(lambda: os.path.getsize(log) <= 41, 1):
             self.csid.end(source.choice((signal.SIGTERM, signal.SIGKILL)))
@@ -155,7 +155,7 @@ class Disk:
 
 
 def one_call(run, record, source, client, waits):
-    """Makes a call, and records it as in doubt if no reply comes."""
+    """Makes a random create or delete. Adds it to `waits` unless it is answered with OK."""
     of = source.choice(sorted(set(record.standing) - {it for _, it in waits}) or [""])
     call = (("remove", of)
             if of
@@ -172,7 +172,7 @@ def one_call(run, record, source, client, waits):
 
 
 def makes(run, record, disk, waits):
-    """Makes each call in doubt again, until it is OK."""
+    """Makes each call in doubt again until it is OK, for at most two seconds each."""
     for call in waits:
 
         def again():
@@ -276,8 +276,8 @@ class Stack:
             mine = [of for of, name in list(self.record.standing.items()) if name.startswith("c%d-" % number)]
 
     def sends(self, source):
-        """Sends a signal to one of the four programs. A stopped program continues in time, or after the end
-        of its lease."""
+        """Sends a signal to one of the four programs. After SIGSTOP the program continues within 1.5 leases,
+        and sometimes gets SIGTERM or SIGKILL just before."""
         victim, how = source.choice(self.all), source.choice(SIGNALS)
         if victim.has_ended():
             return
@@ -294,8 +294,8 @@ class Stack:
 
     def keeps_no_longer(self, source):
         """Kills or stops csid-etcd. The key of its lock is gone after its lease, and a continued csid-etcd
-        does not say that it leads. An etcd that starts again counts each lease from the start, so the test
-        comes after that."""
+        does not say that it leads. Waits first until etcd runs for longer than a lease, since an etcd that
+        starts again counts each lease from its start."""
         self.run.seen["the lock is lost"] += 1
         time.sleep(max(0, self.etcd.begun + LEASE + 2 - time.monotonic()))
         self.keeper.process.send_signal(source.choice((signal.SIGSTOP, signal.SIGSTOP, signal.SIGKILL)))
@@ -311,14 +311,15 @@ class Stack:
                            not told or told[0][0] != 0 or self.etcd.locks())
 
     def revive(self):
-        """Starts the programs that have ended, and continues the stopped programs."""
+        """Starts the programs that have ended, and continues the stopped programs. Returns True."""
         for it in self.all:
             it.revive()
             it.process.send_signal(signal.SIGCONT)
         return True
 
     def lists(self, found):
-        """Adds all listed ids to `found`. Returns False if a page is refused."""
+        """Adds a list of all listed ids to `found`, and returns True. Returns False if a page is refused or
+        not answered."""
         try:
             client = Grpc(self.front.socket, 10)
             ids = listed(lambda method, message: (client.call(b"/csi.v1.Controller/" + method.encode(),
@@ -362,7 +363,8 @@ def signals(run, clocks=None):
 
 
 def clock(run):
-    """Each start of a program has another monotonic clock and another clock since the boot, years apart."""
+    """The part `signals`, where each start of a program gets another monotonic clock and another clock since
+    the boot, in most cases years ahead or some time behind."""
     print(("clock: left out: jumps of the wall clock, which no namespace has, so that they would be those of"
            " the whole machine"), flush=True)
     source = random.Random(run.asked.seed)

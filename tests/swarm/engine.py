@@ -33,7 +33,7 @@ max_volumes = 2
 
 
 def missing(root):
-    """Returns a line for each missing requirement."""
+    """Yields a line for each missing requirement."""
     if os.geteuid() != 0:
         yield "it needs root"
     for name in ["unshare", "nsenter", "setpriv", "losetup", "ip", "tar"]:
@@ -77,7 +77,8 @@ class Engine:
         return self.path("host", *names)
 
     def begin(self):
-        """Starts dockerd. /plugin has the folder of the plugin."""
+        """Starts dockerd, and waits until it answers. In its root the folder of the plugin is /plugin. Ends
+        the script if it does not answer in time."""
         self.make_plugin()
         words = [os.path.join(TOP, "tests/swarm/dockerd"), self.root, self.folder, self.cgroup]
         with open(self.path("dockerd.log"), "w") as log:
@@ -138,12 +139,12 @@ class Engine:
             return file.read().strip()
 
     def run(self, *words, **how):
-        """Runs a command in the namespaces of dockerd."""
+        """Runs a command in the namespaces of dockerd. Returns the completed process."""
         command = ["nsenter", "--target", self.first_process(), "--all", *words]
         return subprocess.run(command, capture_output=True, text=True, timeout=SECONDS, **how)
 
     def docker(self, *words):
-        """Returns the output of a command of docker."""
+        """Returns the output of a command of docker. Raises RuntimeError if it fails."""
         done = self.run("docker", *words)
         if done.returncode != 0:
             raise RuntimeError("docker %s: %s" % (" ".join(words), done.stderr.strip()))

@@ -13,7 +13,7 @@ FORMS = [
     ("multi", "onewriter", "block", "MULTI_NODE_SINGLE_WRITER"),
     ("multi", "all", "block", "MULTI_NODE_MULTI_WRITER"),
 ]
-# Volumes that csid refuses: one node may write while others have the file system mounted.
+# Volumes that csid refuses: a file system is mounted at several nodes, and one or all of them may write.
 UNSUPPORTED = [("multi", "onewriter", "mount", None), ("multi", "all", "mount", None)]
 KILLS, CREATES = 8, 30
 
@@ -111,7 +111,7 @@ def form_checks(swarm):
         row = swarm.rows()[name]
         found = [(each["access"], each["mode"]) for each in row["capabilities"]], row["parameters"]
         yield "%s, with an option" % name, lambda: found, ([form[2:]], {"tier": "fast"})
-    # Only --force removes a volume from Swarm's list that was never created.
+    # Only with --force Swarm removes a volume that was never created.
     swarm.remove("--force", *("-".join(form[:3]) for form in UNSUPPORTED))
     swarm.remove(*names)
     yield "all are removed", swarm.both, ({}, {})

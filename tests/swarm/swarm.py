@@ -49,7 +49,7 @@ class Swarm:
         self.engine.run("nsenter", "--target", process, "--all", *call, check=True)
 
     def volumes(self):
-        """Returns the id of each volume of Swarm, or '' before it is created."""
+        """Returns the id of each volume of Swarm by name. The id is '' before the volume is created."""
         names = self.docker("volume", "ls", "--cluster", "--quiet").split()
         found = json.loads(self.docker("volume", "inspect", *names)) if names else []
         return {each["Name"]: (each["ClusterVolume"].get("Info") or {}).get("VolumeID", "") for each in found}

@@ -33,7 +33,8 @@ def all_vectors():
 
 
 def names():
-    """Returns the name of each vector."""
+    """Returns the names of all vectors. Raises ValueError if a name is malformed, or is the name of two
+    vectors."""
     counts = collections.Counter(name for _, vectors in all_vectors() for name in vectors)
     for name, count in counts.items():
         if not re.fullmatch("[a-z0-9]+(-[a-z0-9]+)*", name) or count != 1:

@@ -52,7 +52,8 @@ CREATE = (create(block(1)), CREATED)
 
 
 def calls(capability, replies):
-    """Returns the calls with a capability. Each call has the reply or the steps at its place."""
+    """Returns the calls with a capability, each with its reply from `replies`. The second of `replies` are
+    the steps after the create."""
     return [(create(capability), replies[0]), *replies[1],
             (publish(N1, capability), replies[2]),
             (call("ValidateVolumeCapabilities", unhex(VOL_1 + "1a" + capability)), replies[3]),

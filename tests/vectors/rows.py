@@ -110,10 +110,10 @@ STEPS = {**vars(messages), **Words("words/steps.txt", vars(messages)).words}
 
 
 def words(name):
-    """Returns the groups of a file of expressions."""
+    """Returns the groups of a file of `words/` by title."""
     return Words("words/%s.txt" % name, STEPS).groups
 
 
 def plain(name):
-    """Returns the groups of a file of bytes."""
+    """Returns the groups of a file of `plain/` by title."""
     return Plain("plain/%s.txt" % name).groups
