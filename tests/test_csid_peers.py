@@ -117,6 +117,16 @@ class PeersTest(CsidTest):
         self.assertIn(IDLE, said)
         self.assertNotIn(PREEMPTED, said)
 
+    def test_peer_that_reads_no_reply_keeps_others_for_a_second(self):
+        """Its connection is then closed, and reported as one that kept another one waiting."""
+        begun, peer = self.server.lines(), self.connect()
+        peer.settimeout(0.5)
+        with contextlib.suppress(TimeoutError):
+            while True:
+                peer.sendall(frame(PROBE) * 1000)
+        self.assertLess(self.seconds_of(lambda: self.server.ask(frame(PROBE))), 5)
+        self.assertEqual(self.server.lines(), begun + PREEMPTED)
+
     def test_call_that_comes_byte_by_byte_keeps_others_for_a_second_in_all(self):
         """Three peers send a part of a call and then a byte now and then. Alone, each would have ten seconds.
         """

@@ -1,6 +1,5 @@
 //! Writes replies as JSON, in the mapping of proto3. Each field that `csi_codec` decodes is written, even if
-//! it has its default value. The exceptions are the mount group of a capability, and a oneof without a
-//! member.
+//! it has its default value. Only a oneof without a member is not written.
 
 use command_line::MODE_NAMES;
 use csi_types::{
@@ -144,7 +143,11 @@ fn capability(alloc: Global, capability: &Capability) -> Json {
         Access::Missing => json!(in alloc; {"accessMode": mode}),
         Access::Block => json!(in alloc; {"block": {}, "accessMode": mode}),
         Access::Mount(mount) => json!(in alloc; {
-            "mount": {"fsType": mount.get().fs_type.as_str(), "mountFlags": texts(alloc, &mount.get().flags)?},
+            "mount": {
+                "fsType": mount.get().fs_type.as_str(),
+                "mountFlags": texts(alloc, &mount.get().flags)?,
+                "volumeMountGroup": mount.get().group.as_str(),
+            },
             "accessMode": mode,
         }),
     }

@@ -96,8 +96,9 @@ fn report_outcome(console: &Console<'_>, ending: Ending, now: Instant, end: RunE
 }
 
 // Reports how a connection ended. `ending` is the reason if the server ended the turn of the connection. The
-// reason is reported if the turn ended in a read. `is_cut` is true if a reply was held back. Nothing is
-// reported if the calls ended without a fault, or if the clock cannot be read.
+// reason is reported if the turn ended in a read. It is also reported if the turn ended in a write because
+// another connection was waiting. `is_cut` is true if a reply was held back. Nothing is reported if the calls
+// ended without a fault, or if the clock cannot be read.
 fn report_end(console: &Console<'_>, ending: Option<Ending>, is_cut: bool, end: RunEnd) {
     let Ok(now) = Instant::now(console.rt) else {
         return;
@@ -107,6 +108,9 @@ fn report_end(console: &Console<'_>, ending: Option<Ending>, is_cut: bool, end: 
         (RunEnd::WriteFailed, _) if is_cut => console.say(
             &"the change store does not lead any more",
         ),
+        (RunEnd::WriteFailed, Some(Ending::Preempted)) => {
+            report_ending(console, Ending::Preempted, now)
+        }
         (RunEnd::Malformed(_), _) => report_outcome(console, Ending::Malformed, now, end),
         _ => report_outcome(console, Ending::Failed, now, end),
     }
