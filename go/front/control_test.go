@@ -65,7 +65,7 @@ func dial(t *testing.T, path string) *net.UnixConn {
 
 const shortFrame = "0004 2f612f62 00 00000000"
 
-// Calls over one connection are answered with the bytes of csid, also if the peer sends both at
+// Two calls over one connection are answered with the bytes of csid, even if the peer sends both at
 // once and then closes its sending half. Each refused call is logged.
 func TestControlCalls(t *testing.T) {
 	path, _ := csid(t, answering(fromHex(t, "09 0002 4142 00 00000000")))

@@ -364,7 +364,7 @@ func TestImportsAtOnce(t *testing.T) {
 	}
 }
 
-// Long rows have transactions of their own. A row that is too long for etcd is named.
+// Long rows are split over several transactions. A row that is too long for etcd is named.
 func TestImportLongRows(t *testing.T) {
 	t.Parallel()
 	long := func(number, pairs int) string {

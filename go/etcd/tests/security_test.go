@@ -274,7 +274,7 @@ func newUserCluster(t *testing.T) *userCluster {
 	return &userCluster{cluster, filepath.Join(processes.Folder(t), "password")}
 }
 
-// args returns the arguments of a csid-etcd with the user.
+// args returns the arguments with which csid-etcd logs in as the user csid, followed by more.
 func (u *userCluster) args(more ...string) []string {
 	return append([]string{"--user", "csid", "--password-file", u.password}, more...)
 }

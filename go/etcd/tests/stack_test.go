@@ -99,7 +99,8 @@ func (s *stack) start(t *testing.T) *stack {
 	return s
 }
 
-// restartEnded starts the programs that have ended.
+// restartEnded starts again the programs that have ended: first csid-etcd, then csid, then the
+// front.
 func (s *stack) restartEnded(t *testing.T) {
 	t.Helper()
 	if hasEnded(s.store) {

@@ -18,7 +18,7 @@ import (
 type step struct {
 	// The fake csid first waits until this is closed, if it is not nil.
 	wait <-chan struct{}
-	// Writes these bytes.
+	// Writes these bytes to the front, unless mute is true. They need not be a well-formed reply.
 	write []byte
 	// Then closes the connection.
 	close bool

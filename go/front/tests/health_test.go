@@ -12,7 +12,7 @@ import (
 	"./processes"
 )
 
-// health is a client of gRPC's health service.
+// health asks the health service at the socket of a front. Its method wants checks an answer.
 type health struct {
 	grpc_health_v1.HealthClient
 }

@@ -133,9 +133,9 @@ func openFolder(path string) (*os.File, error) {
 	return os.Open(filepath.Dir(path))
 }
 
-// lockSoon locks a folder. With the lock, of two processes that start together, neither removes the
-// other's new socket. If another process keeps the lock for lockTime, isLocked is false and err is
-// nil.
+// lockSoon locks a folder, so that if two processes start together, neither removes the socket that
+// the other has just made. If another process keeps the lock for lockTime, isLocked is false and
+// err is nil.
 func lockSoon(folder *os.File) (isLocked bool, err error) {
 	for end := time.Now().Add(lockTime); ; time.Sleep(lockPause) {
 		err := lock(folder)
