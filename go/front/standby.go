@@ -46,7 +46,8 @@ func (f *front) standBy() int {
 	case err := <-f.failed:
 		return f.fails(err, noSocket)
 	case <-f.stop:
-		return done
+		// No gRPC call runs, but calls of the control socket may.
+		return f.end(newServer(f.handler))
 	case <-ready:
 	}
 	listener, err := sockets.Listen(f.asked.listen)
