@@ -274,3 +274,17 @@ func TestEndWhileItWaits(t *testing.T) {
 		t.Errorf("status %d", status)
 	}
 }
+
+// /livez also reports that csid hangs if the front closes the connection for a late reply while the
+// Probe waits.
+func TestLivenessAfterALateReply(t *testing.T) {
+	mute, _ := csid(t, func(conn net.Conn) { io.Copy(io.Discard, conn) })
+	h := newHandler(options{csid: mute, late: 100 * time.Millisecond, waiting: 1, standby: time.Minute},
+		newLogger(io.Discard, textLines))
+	first, cancel := context.WithTimeout(context.Background(), 20*time.Millisecond)
+	defer cancel()
+	h.backend.call(first, "/a/b", nil)
+	if status, text := asks(h, "/livez", time.Second); status != http.StatusServiceUnavailable {
+		t.Errorf("%d, %q", status, text)
+	}
+}
