@@ -202,9 +202,14 @@ func (b *backend) limit(conn *connection) {
 		b.mutex.Lock()
 		defer b.mutex.Unlock()
 		if len(conn.sent) > 0 && conn.sent[0] == first {
-			conn.end(fmt.Errorf("an earlier call was given up, and no reply to it came within %v", b.late))
+			conn.end(b.lateReply())
 		}
 	})
+}
+
+// lateReply returns the reason why limit ends a connection.
+func (b *backend) lateReply() error {
+	return fmt.Errorf("an earlier call was given up, and no reply to it came within %v", b.late)
 }
 
 // send sends as many of the waiting calls as may be sent now. If calls wait and there is no

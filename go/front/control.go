@@ -184,7 +184,12 @@ func (c *control) answer(conn *clientConn, request frames.Request) (frames.Reply
 	begin := time.Now()
 	ctx, cancel := context.WithCancel(context.Background())
 	defer cancel()
-	go cancelGone(ctx, cancel, conn.Conn.(*net.UnixConn))
+	peer := conn.Conn.(*net.UnixConn)
+	if isGone(peer) {
+		// The call may have waited for a long time until the connection had room.
+		cancel()
+	}
+	go cancelGone(ctx, cancel, peer)
 	c.handler.metrics.waiting.Inc()
 	removal := c.handler.removalOf(ctx, request.Path, request.Message)
 	answer, err := c.handler.reply(ctx, request.Path, request.Message)
@@ -195,7 +200,7 @@ func (c *control) answer(conn *clientConn, request frames.Request) (frames.Reply
 	}
 	asked := removal.made(c.handler.loggedChange(request.Path, request.Message, answer.Body), why.Code())
 	if asked != nil {
-		asked.sender = senderOf(conn.Conn.(*net.UnixConn))
+		asked.sender = senderOf(peer)
 	}
 	c.handler.ended(viaControl, request.Path, asked, why, time.Since(begin))
 	return answer, err

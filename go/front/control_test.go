@@ -369,3 +369,29 @@ func TestPeerThatIsGone(t *testing.T) {
 		t.Error("nothing was cancelled")
 	}
 }
+
+// The front does not make a call whose peer closes its connection before the front takes it, as a
+// csictl that waits for room and is interrupted.
+func TestCallOfAPeerThatIsGone(t *testing.T) {
+	calls := int32(0)
+	path, _ := csid(t, func(conn net.Conn) {
+		for isCalled(conn) {
+			atomic.AddInt32(&calls, 1)
+			conn.Write(notFound)
+		}
+	})
+	c, socket, log := controlled(t, path)
+	// No connection is taken while the mutex is locked.
+	c.listener.mutex.Lock()
+	peer := dial(t, socket)
+	peer.Write(fromHex(t, shortFrame))
+	peer.Close()
+	c.listener.mutex.Unlock()
+	awaits(t, "a line", func() bool { return log.String() != "" })
+	if line := log.String(); !strings.HasPrefix(line, `front: control /a/b 1 "context canceled" `) {
+		t.Errorf("said %q", line)
+	}
+	if made := atomic.LoadInt32(&calls); made > 0 {
+		t.Errorf("%d calls of csid", made)
+	}
+}

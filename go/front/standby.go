@@ -46,7 +46,8 @@ func (f *front) standBy() int {
 	case err := <-f.failed:
 		return f.fails(err, noSocket)
 	case <-f.stop:
-		return done
+		// No gRPC call runs, but calls of the control socket may.
+		return f.end(newServer(f.handler))
 	case <-ready:
 	}
 	listener, err := sockets.Listen(f.asked.listen)
@@ -161,12 +162,14 @@ func soonReady(ctx context.Context, check func(context.Context) error, length ti
 	return check(ctx)
 }
 
-// livez answers 503 if csid hangs: a Probe timed out, and no reply came for questionTime. Otherwise
-// it answers "ok". A csid that closes each connection, since another csid has the lock, does not
-// hang. A csid that answers other calls before the Probe does not hang either.
+// livez answers 503 if csid hangs: a Probe timed out or the front ended its connection for a late
+// reply, and no reply came for questionTime. Otherwise it answers "ok". A csid that closes each
+// connection, since another csid has the lock, does not hang. A csid that answers other calls
+// before the Probe does not hang either.
 func (h *handler) livez(answer http.ResponseWriter, request *http.Request) {
 	err := h.checkInTurn(request.Context(), h.isCsidReady)
-	if status.Code(err) == codes.DeadlineExceeded && h.backend.life.silence() >= questionTime {
+	isUnanswered := status.Code(err) == codes.DeadlineExceeded || reason(err) == h.backend.lateReply().Error()
+	if isUnanswered && h.backend.life.silence() >= questionTime {
 		http.Error(answer, "csid hangs", http.StatusServiceUnavailable)
 		return
 	}

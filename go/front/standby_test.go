@@ -1,17 +1,23 @@
 package main
 
 import (
+	"bytes"
 	"context"
 	"fmt"
 	"io"
 	"net"
 	"net/http"
 	"net/http/httptest"
+	"os"
+	"path/filepath"
 	"strings"
 	"sync"
 	"sync/atomic"
+	"syscall"
 	"testing"
 	"time"
+
+	"fomaheti/frames"
 )
 
 // While replies come, a Probe may wait longer than the limit. When no reply has come for the limit,
@@ -222,5 +228,63 @@ func TestLinesWhileItWaits(t *testing.T) {
 	if want := `front: /csi.v1.Identity/Probe 14 "csid: the connection was closed unanswered: see the log ` +
 		`of csid" `; !strings.HasPrefix(said.String(), want) {
 		t.Errorf("said %q", said.String())
+	}
+}
+
+// A front that is asked to end while it waits for csid first answers the running calls of its
+// control socket.
+func TestEndWhileItWaits(t *testing.T) {
+	called, isAnswered := make(chan struct{}), make(chan struct{})
+	path, _ := csid(t, func(conn net.Conn) {
+		requests := frames.NewRequests(conn)
+		for request, err := requests.Next(); err == nil; request, err = requests.Next() {
+			if request.Path == "/a/b" {
+				close(called)
+				<-isAnswered
+			}
+			conn.Write(notFound)
+		}
+	})
+	asked := options{csid: path, late: time.Minute, waiting: 1, standby: time.Minute, grace: 10 * time.Second,
+		control: filepath.Join(t.TempDir(), "control.sock")}
+	log := newLogger(io.Discard, textLines)
+	h := newHandler(asked, log)
+	c, err := startControl(h, asked)
+	if err != nil {
+		t.Fatal(err)
+	}
+	t.Cleanup(c.close)
+	f := &front{asked: asked, log: log, handler: h, control: c, stop: make(chan os.Signal, 2)}
+	ended := make(chan int, 1)
+	go func() { ended <- f.standBy() }()
+	conn := dial(t, asked.control)
+	conn.Write(fromHex(t, shortFrame))
+	<-called
+	f.stop <- syscall.SIGTERM
+	select {
+	case status := <-ended:
+		t.Fatalf("it ended with status %d while a call ran", status)
+	case <-time.After(100 * time.Millisecond):
+	}
+	close(isAnswered)
+	if got, err := io.ReadAll(conn); err != nil || !bytes.Equal(got, notFound) {
+		t.Errorf("%x, %v", got, err)
+	}
+	if status := <-ended; status != done {
+		t.Errorf("status %d", status)
+	}
+}
+
+// /livez also reports that csid hangs if the front closes the connection for a late reply while the
+// Probe waits.
+func TestLivenessAfterALateReply(t *testing.T) {
+	mute, _ := csid(t, func(conn net.Conn) { io.Copy(io.Discard, conn) })
+	h := newHandler(options{csid: mute, late: 100 * time.Millisecond, waiting: 1, standby: time.Minute},
+		newLogger(io.Discard, textLines))
+	first, cancel := context.WithTimeout(context.Background(), 20*time.Millisecond)
+	defer cancel()
+	h.backend.call(first, "/a/b", nil)
+	if status, text := asks(h, "/livez", time.Second); status != http.StatusServiceUnavailable {
+		t.Errorf("%d, %q", status, text)
 	}
 }

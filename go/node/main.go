@@ -110,7 +110,7 @@ func serve(args []string, out io.Writer) error {
 	return nil
 }
 
-// listen makes a socket. It replaces the socket of an earlier process if no process answers on it.
+// listen makes a socket. It replaces the socket of an earlier process if no process listens on it.
 // Any other file with this path is an error.
 func listen(path string) (net.Listener, error) {
 	if file, err := os.Lstat(path); err == nil && file.Mode()&os.ModeSocket != 0 {
@@ -118,6 +118,9 @@ func listen(path string) (net.Listener, error) {
 		if err == nil {
 			conn.Close()
 			return nil, fmt.Errorf("%s: somebody answers on it already", path)
+		}
+		if !errors.Is(err, syscall.ECONNREFUSED) {
+			return nil, err
 		}
 		if err := os.Remove(path); err != nil {
 			return nil, err
