@@ -143,8 +143,9 @@ fn judge_seen<S: Alter>(
     judge_joined(alloc, conn, config, tables)
 }
 
-// Checks and counts the rows of volumes and attachments, constraint by constraint. The results of the scans
-// are large, so they are passed by reference to the functions that may fail.
+// Checks the rows of volumes and attachments, constraint by constraint. If they pass, sets `content` to their
+// numbers and returns the results of the scan over volumes. The results of the scans are large, so they are
+// passed by reference to the functions that may fail.
 fn judge_after<S: Alter>(
     alloc: Global,
     conn: &mut IdleConnection<S>,
@@ -178,7 +179,8 @@ fn see_row<S: Alter>(conn: &mut IdleConnection<S>) -> Result<Meta, AdoptFault>
     judge_meta(rows)
 }
 
-// Checks all rows, beginning with the row of `meta`.
+// Checks all rows, beginning with the row of `meta`. If they pass, sets `content` to their numbers and
+// returns the results of the scan over volumes.
 fn judge_rows<S: Alter>(
     alloc: Global,
     conn: &mut IdleConnection<S>,

@@ -80,7 +80,7 @@ impl<'a> Cells<'a> {
         true
     }
 
-    /// Returns the number in the column with field number `at`.
+    /// Returns the number in the column with field number `at`, or 0 if the row has no such field.
     pub(crate) fn number(&self, at: usize) -> u64
         requires { at < 7 }
         ensures { result ≡ number_of self.now at }
@@ -88,7 +88,7 @@ impl<'a> Cells<'a> {
         self.numbers[at]
     }
 
-    /// Returns the bytes in the column with field number `at`.
+    /// Returns the bytes in the column with field number `at`, or no bytes if the row has no such field.
     pub(crate) fn bytes(&self, at: usize) -> &'a [u8]
         requires { at < 7 }
         ensures { result.now ≡ bytes_of self.now at }

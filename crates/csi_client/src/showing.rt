@@ -30,7 +30,8 @@ pub enum ShowEnd {
     /// The input ended after a complete reply, or was empty, and all replies were shown. The value is true if
     /// a reply had a status other than 0.
     Done(bool),
-    /// A reply of the stream is malformed, with this fault. All replies before it were shown.
+    /// A reply of the stream is malformed, or the input ended inside a reply. The value is the fault. All
+    /// replies before this reply were shown.
     Malformed(ReplyFault),
     /// The body of a reply is not a response of the method. All replies before this reply were shown, and
     /// also the first line of this reply.
@@ -40,7 +41,8 @@ pub enum ShowEnd {
     /// A write or a flush failed in a reply. All replies before this reply were shown. Of the lines of this
     /// reply, a part was shown, which may be empty or complete.
     WriteFailed,
-    /// Memory was refused for the buffer of frames, or for the lines of a reply.
+    /// Memory was refused: for the buffer of frames, before anything was read, or for the lines of a reply.
+    /// All replies before this reply were shown, and nothing of this reply.
     NoMemory,
 }
 

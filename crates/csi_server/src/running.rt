@@ -87,7 +87,8 @@ fn answer_piece<C, S: Service<C>, W: Write>(
 /// memory for a body is refused, only that call is refused.
 ///
 /// The clause `serves` holds if `doubt`, a number in the model of the service, is 0 at the end. The clause
-/// `writes` holds for any service: one valid reply of the envelope is written for each call.
+/// `writes` holds for any service: one valid reply of the envelope is written for each call. If a write
+/// fails, the last reply may be incomplete.
 ///
 /// # Not promised
 ///

@@ -37,7 +37,7 @@ use std::slice::from_ref;
 pub(crate) const NUMBERS: u64 = 1 << 63;
 
 // Reserves the memory that counting one more volume in a pool needs. Fails with `Refused` if the pool's total
-// cannot count the volume.
+// cannot count the volume: the number of volumes would reach 2^64, or their bytes 2^128.
 fn reserve(alloc: Global, totals: &mut Totals, pool: &Text, bytes: u64) -> Result<(), TablesError>
     ensures room { OnOk result (HasRoom (total_of totals.old pool.now) bytes) }
     ensures reserved { OnOk result (IsReserved totals.new pool.now) }

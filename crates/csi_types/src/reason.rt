@@ -76,7 +76,7 @@ pub enum Reason {
     NodeFull,
     /// The volume does not have the requested capability.
     CapabilityNotOfVolume,
-    /// `starting_token` is neither empty nor a number from 1 to below the next volume number.
+    /// `starting_token` is neither empty nor a number that is at least 1 and below the next volume number.
     BadToken,
     /// With the requested changes, the mutable parameters of the volume would have more than 4,096 bytes.
     MutableTooLarge,

@@ -14,9 +14,11 @@ use crate::limits::{
 /// body, in this order. A reply also begins with a status. So the same code reads both kinds.
 #[derive(Clone, Copy)]
 pub enum FrameKind {
-    /// Frames of calls. The text is the path of the method, and the body is the request message.
+    /// Frames of calls, which a client sends. The text is the path of the method, and the body is the request
+    /// message.
     Calls,
-    /// Frames of replies. A status comes before the length of the text, and the body is the response message.
+    /// Frames of replies, which the plugin sends. A status comes before the length of the text. The text is
+    /// the reason of a refusal, and the body is the response message.
     Replies,
 }
 
