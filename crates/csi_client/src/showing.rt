@@ -41,8 +41,8 @@ pub enum ShowEnd {
     /// A write or a flush failed in a reply. All replies before this reply were shown. Of the lines of this
     /// reply, a part was shown, which may be empty or complete.
     WriteFailed,
-    /// Memory was refused: for the buffer of frames, before anything was read, or for the lines of a reply.
-    /// All replies before this reply were shown, and nothing of this reply.
+    /// Memory was refused. Either it was memory for the buffer of frames, and nothing was read. Or it was
+    /// memory for the lines of a reply, and all replies before this reply were shown.
     NoMemory,
 }
 

@@ -1,9 +1,9 @@
 //! Makes each change over a connection, and keeps the totals in memory in step with the tables.
 //!
 //! No transaction may be open on the connection before a call, and no transaction is open after it. After
-//! `Ok` the change is made and committed. After a fault the State is unchanged, but a stop may leave the
-//! State with the change. The totals are updated only after the change is committed, and the update takes no
-//! memory.
+//! `Ok` the change is made and committed. A change fails if the database refuses it or memory is refused.
+//! After a fault the State is unchanged, but a stop may leave the State with the change. The totals are
+//! updated only after the change is committed, and the update takes no memory.
 //!
 //! A change is one transaction, except that removing a volume and changing parameters take two. The first
 //! transaction reads the row of the volume and leaves the State unchanged. A removal needs the name of the

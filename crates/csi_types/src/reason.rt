@@ -82,7 +82,8 @@ pub enum Reason {
     MutableTooLarge,
     /// The body of the reply would be longer than 4,194,304 bytes.
     ReplyTooLarge,
-    /// Memory was refused while the call was executed.
+    /// Memory was refused while the call was decoded or executed. No change is visible, but a change of the
+    /// call may be visible after a restart.
     OutOfMemory,
     /// The store refused a read or a change of the call. No change is visible. But if the store refused a
     /// change, the change may be visible after a restart.

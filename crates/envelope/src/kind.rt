@@ -17,8 +17,8 @@ pub enum FrameKind {
     /// Frames of calls, which a client sends. The text is the path of the method, and the body is the request
     /// message.
     Calls,
-    /// Frames of replies, which the plugin sends. A status comes before the length of the text. The text is
-    /// the reason of a refusal, and the body is the response message.
+    /// Frames of replies, which a server sends. A status comes before the length of the text. The text is the
+    /// reason of a refusal, and the body is the response message.
     Replies,
 }
 
