@@ -13,7 +13,7 @@ pub struct Content {
     pub volumes: u64,
     /// The number of rows in the table of attachments, or the greatest `u64` if there are more.
     pub attachments: u64,
-    /// The number that the next volume gets.
+    /// The number that the next volume gets, from 1 to 2^62. At 2^62 no further volume can be created.
     pub next_number: u64,
 }
 

@@ -8,7 +8,7 @@ ghost use Rattle.csi_change_store.specs.Pages.{is_cell};
 use pbwire::laws::{listed, spelled};
 use pbwire::{Field, Fields, Value};
 
-// Field numbers of columns are below this number.
+// The length of an array by field number. The field numbers of columns are 1 to 6.
 const NUMBERS: usize = 7;
 
 // The limit of a number in a column: each number is below 2^63, as in SQLite.

@@ -21,7 +21,8 @@ use pbmessage::DecodeFault;
 use std::alloc::Global;
 use std::io::{self, Read, Write};
 
-// The greatest number of reads in one run.
+// The greatest number of reads in one run. With this limit a run takes fewer than 2^63 bytes, as
+// `ReplyFramer::feed` requires.
 const MAX_READS: u64 = 1 << 32;
 
 /// The way in which a run of [`show_all`] ended.
@@ -90,7 +91,8 @@ impl Printer {
         }
     }
 
-    // Writes the lines that are in the buffer.
+    // Writes the lines that are in the buffer, and flushes the writer. After an error, a prefix of the lines
+    // was written, which may be empty or complete.
     fn write_lines<W: Write>(&self, writer: &mut W) -> io::Result<()>
         ensures all { OnOk result (Appends (W.contents writer.old)
             (W.contents writer.new) self.now.lines.items) }

@@ -116,7 +116,8 @@ fn run_text<W: Write>(
     }
 }
 
-// Returns a line without its line end.
+// Returns a line without its line end. The last line of a text may have no line end, and is then returned
+// unchanged.
 fn without_end(line: &[u8]) -> &[u8]
     ensures { IsTextOf line.now result.now }
 {
