@@ -98,13 +98,17 @@ func method[Q, R any](name string, answer func(*plugin, context.Context, *Q) (*R
 }
 
 // alone wraps a method. Only one call of all wrapped methods runs at a time. The other methods,
-// such as Probe, are answered in the meantime.
+// such as Probe, are answered in the meantime. A call whose caller gave up before its turn does
+// nothing: a later call may have been answered already.
 func alone[Q, R any](
 	answer func(*plugin, context.Context, *Q) (*R, error),
 ) func(*plugin, context.Context, *Q) (*R, error) {
 	return func(p *plugin, ctx context.Context, request *Q) (*R, error) {
 		p.mutex.Lock()
 		defer p.mutex.Unlock()
+		if err := ctx.Err(); err != nil {
+			return nil, status.FromContextError(err).Err()
+		}
 		return answer(p, ctx, request)
 	}
 }
