@@ -110,14 +110,17 @@ func serve(args []string, out io.Writer) error {
 	return nil
 }
 
-// listen makes a socket. It replaces the socket of an earlier process if no process answers on it.
-// Any other file with this path is an error.
+// listen makes a socket. It replaces the socket of an earlier process if connections to it are
+// refused. Any other file with this path is an error, and so is the socket of a busy process.
 func listen(path string) (net.Listener, error) {
 	if file, err := os.Lstat(path); err == nil && file.Mode()&os.ModeSocket != 0 {
 		conn, err := net.Dial("unix", path)
 		if err == nil {
 			conn.Close()
 			return nil, fmt.Errorf("%s: somebody answers on it already", path)
+		}
+		if !errors.Is(err, syscall.ECONNREFUSED) {
+			return nil, fmt.Errorf("a socket exists there, and nothing is known of it: %w", err)
 		}
 		if err := os.Remove(path); err != nil {
 			return nil, err
