@@ -135,6 +135,9 @@ func (s *server) handle(c *connection, request frames.Request) (frames.Reply, er
 	}
 	// The term must not be used while a page is read ahead.
 	c.walk.waitAhead()
+	if term.isOver() {
+		return frames.Reply{}, errOver
+	}
 	body, err := s.dispatch(c, term, request)
 	if term.isOver() {
 		return frames.Reply{}, errOver
