@@ -248,8 +248,8 @@ func (s *countingServer) Range(ctx context.Context, request *pb.RangeRequest) (*
 	return read, err
 }
 
-// Long rows after many short ones are not read again for each page. A page takes few of the rows that
-// the read after the short ones asks for, so later reads ask for fewer.
+// Long rows after many short ones are not read again for each page. A page takes few of the rows
+// that the read after the short ones asks for, so later reads ask for fewer.
 func TestLongRowsAfterShortOnes(t *testing.T) {
 	server := &countingServer{rowServer: rowServer{rows: map[string]string{}}}
 	all := int64(0)
