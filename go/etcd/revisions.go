@@ -107,6 +107,13 @@ func (r *revisions) check(least, revision int64) error {
 	return r.older
 }
 
+// isOlder reports whether a lower revision was seen. From then on check always refuses.
+func (r *revisions) isOlder() bool {
+	r.mutex.Lock()
+	defer r.mutex.Unlock()
+	return r.older != nil
+}
+
 func olderRefusal(answered, revision int64) error {
 	return refuse("etcd is at revision %d, and %d was answered: it was restored from an older snapshot, and volumes "+
 		"may be missing; --accept-older goes on", revision, answered)

@@ -29,6 +29,8 @@ type server struct {
 	logf        func(format string, args ...interface{})
 	mutex       sync.Mutex
 	newest      *connection
+	// Set at the end of the program: further connections are closed.
+	isEnding bool
 }
 
 // connection is a connection from csid, with the walk that reads the rows for it.
@@ -43,9 +45,15 @@ type connection struct {
 }
 
 // take makes conn the newest connection. The connection before it ends after its running call.
+// After end, take closes conn.
 func (s *server) take(conn net.Conn) {
 	c := &connection{Conn: conn, replaced: make(chan struct{}), done: make(chan struct{})}
 	s.mutex.Lock()
+	if s.isEnding {
+		s.mutex.Unlock()
+		conn.Close()
+		return
+	}
 	before := s.newest
 	s.newest = c
 	s.mutex.Unlock()
@@ -135,6 +143,9 @@ func (s *server) handle(c *connection, request frames.Request) (frames.Reply, er
 	}
 	// The term must not be used while a page is read ahead.
 	c.walk.waitAhead()
+	if term.isOver() {
+		return frames.Reply{}, errOver
+	}
 	body, err := s.dispatch(c, term, request)
 	if term.isOver() {
 		return frames.Reply{}, errOver
@@ -217,9 +228,11 @@ func (s *server) drop() {
 	}
 }
 
-// end closes the newest connection after its running call.
+// end closes the newest connection after its running call, and each later connection at once:
+// accept may have taken one off the listener before the listener was closed.
 func (s *server) end() {
 	s.mutex.Lock()
+	s.isEnding = true
 	last := s.newest
 	s.mutex.Unlock()
 	last.replace()

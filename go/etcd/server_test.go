@@ -240,3 +240,14 @@ func TestReadAhead(t *testing.T) {
 		})
 	}
 }
+
+// A connection that was accepted just before the end, and arrives after it, is closed, and no call
+// of it is answered: nobody would wait for its change before the lock is released.
+func TestConnectionAfterTheEnd(t *testing.T) {
+	s := &server{state: &leadership{refusal: refuse("waiting")}, logf: t.Logf}
+	s.end()
+	own := connect(t, s)
+	if reply, err := call(own, leadPath, nil); err == nil {
+		t.Errorf("got %v, want a closed connection", reply)
+	}
+}

@@ -37,9 +37,13 @@ type term struct {
 	gone chan struct{}
 }
 
-// isOver reports whether the term has ended, or its lease has ended by this program's own clock. In
-// both cases this program may have lost the lock.
-func (t *term) isOver() bool { return t.ctx.Err() != nil || !t.lease.isAlive() }
+// isOver reports whether the term has ended, its lease has ended by this program's own clock, or an
+// answer came from an older snapshot. In the first two cases this program may have lost the lock.
+// In the last one it keeps the lock, so that no program serves that remembers less, and the next
+// read of the queue ends the use of the term.
+func (t *term) isOver() bool {
+	return t.ctx.Err() != nil || !t.lease.isAlive() || t.revisions.isOlder()
+}
 
 // errOver is the error of a call during which the term ended.
 var errOver = errors.New("the lock was lost")
@@ -107,12 +111,11 @@ func readError(err error) error {
 	return unknownOutcome{err}
 }
 
-// observe notes the revision of an answer in seen. It ends the term if etcd is at a lower revision
-// than least, the lowest possible one when the request was sent: then it was restored from an older
-// snapshot.
+// observe notes the revision of an answer in seen. It returns a refusal if etcd is at a lower
+// revision than least, the lowest possible one when the request was sent: then it was restored from
+// an older snapshot, and isOver is true from then on.
 func (t *term) observe(least, revision int64) error {
 	if err := t.revisions.check(least, revision); err != nil {
-		t.end()
 		return err
 	}
 	if revision > t.seen {
@@ -209,7 +212,7 @@ func (t *term) confirmLead(ctx context.Context) error {
 			reason = err
 		}
 		sleep(ctx, leadRetryPause)
-		if ctx.Err() != nil {
+		if ctx.Err() != nil || t.isOver() {
 			return refuse("etcd does not say whether this program leads: %v", reason)
 		}
 	}

@@ -240,8 +240,8 @@ func TestFence(t *testing.T) {
 	}
 }
 
-// A revision below the revision of an earlier answer ends the term. A change with this revision
-// gets no OK.
+// After a revision below the revision of an earlier answer the term answers nothing more, but does
+// not end, as its end would release the lock. A change with this revision gets no OK.
 func TestOlder(t *testing.T) {
 	server := &scriptedServer{answers: []answer{{succeeded: true, revision: 110}, {succeeded: true, revision: 109}}}
 	term := server.newTerm(t)
@@ -250,8 +250,8 @@ func TestOlder(t *testing.T) {
 		t.Fatal(err)
 	}
 	err := term.commit(context.Background(), change)
-	if code, _ := outcome(err); code != codes.Unknown || term.ctx.Err() == nil {
-		t.Errorf("got error %v, term %v, want an unknown outcome and the end of the term", err, term.ctx.Err())
+	if code, _ := outcome(err); code != codes.Unknown || !term.revisions.isOlder() || term.ctx.Err() != nil {
+		t.Errorf("got error %v, term %v, want an unknown outcome and a term that has not ended", err, term.ctx.Err())
 	}
 }
 

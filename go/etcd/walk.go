@@ -153,13 +153,14 @@ func (w *walk) appendRows(ctx context.Context, page []byte) (longer []byte, isFu
 		return nil, false, err
 	}
 	begin := len(page)
-	for _, found := range read.Kvs {
+	for i, found := range read.Kvs {
 		row, err := w.row(found)
 		if err != nil {
 			return nil, false, err
 		}
 		if len(page) > 0 && len(page)+len(row) > maxPageBytes {
 			w.from = string(found.Key)
+			w.limit = nextLimit(int64(i+1), int64(len(page)-begin+len(row)))
 			return page, true, nil
 		}
 		page = append(page, row...)
@@ -174,8 +175,8 @@ func (w *walk) appendRows(ctx context.Context, page []byte) (longer []byte, isFu
 	return page, false, nil
 }
 
-// nextLimit returns the limit of the next read, in rows. rows and bytes are the size of the last
-// read, which had at least one row.
+// nextLimit returns the limit of the next read, in rows. rows and bytes are the size of what was
+// used of the last read, at least one row.
 func nextLimit(rows, bytes int64) int64 {
 	limit := targetPageBytes / (bytes/rows + 1)
 	if limit > 8*rows {

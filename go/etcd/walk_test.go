@@ -233,3 +233,38 @@ func TestTokens(t *testing.T) {
 		}
 	}
 }
+
+// countingServer counts the bytes of the rows that it sends.
+type countingServer struct {
+	rowServer
+	sent int64
+}
+
+func (s *countingServer) Range(ctx context.Context, request *pb.RangeRequest) (*pb.RangeResponse, error) {
+	read, err := s.rowServer.Range(ctx, request)
+	for _, found := range read.GetKvs() {
+		s.sent += int64(len(found.Value))
+	}
+	return read, err
+}
+
+// Long rows after many short ones are not read again for each page. A page takes few of the rows
+// that the read after the short ones asks for, so later reads ask for fewer.
+func TestLongRowsAfterShortOnes(t *testing.T) {
+	server := &countingServer{rowServer: rowServer{rows: map[string]string{}}}
+	all := int64(0)
+	for n := uint64(1); n <= 3000; n++ {
+		size := 100
+		if n > 2000 {
+			size = 16 << 10
+		}
+		server.rows[sampleKeys.volume(n)] = string(sized(t, n, size).encoded())
+		all += int64(len(server.rows[sampleKeys.volume(n)]))
+	}
+	leading := newWalkTerm(t, &server.rowServer)
+	leading.client = startServer(t, server, 1)
+	readPages(t, leading)
+	if server.sent > 5*all/2 {
+		t.Errorf("got %d bytes of rows from etcd, want at most 2.5 times %d", server.sent, all)
+	}
+}

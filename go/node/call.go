@@ -3,6 +3,7 @@ package main
 import (
 	"context"
 	"encoding/json"
+	"errors"
 	"flag"
 	"fmt"
 	"io"
@@ -74,13 +75,20 @@ func call(args []string, out io.Writer) error {
 	return err
 }
 
+// decodeJSON decodes the only JSON value of a text. An empty text leaves the request empty.
 func decodeJSON(text string, request interface{}) error {
 	if text == "" {
 		return nil
 	}
 	from := json.NewDecoder(strings.NewReader(text))
 	from.DisallowUnknownFields()
-	return from.Decode(request)
+	if err := from.Decode(request); err != nil {
+		return err
+	}
+	if _, err := from.Token(); err != io.EOF {
+		return errors.New("something follows the first value")
+	}
+	return nil
 }
 
 func methodNames() string {

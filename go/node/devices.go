@@ -3,6 +3,7 @@ package main
 import (
 	"errors"
 	"fmt"
+	"io"
 	"os"
 	"os/exec"
 	"path/filepath"
@@ -21,6 +22,9 @@ const detachTime = 2 * time.Second
 
 // blkidNotFound is the exit status of blkid if it recognizes no contents.
 const blkidNotFound = 2
+
+// probedBytes is the length of the start of a device that must be readable before it is formatted.
+const probedBytes = 1 << 20
 
 // devices keeps each volume as a sparse file, attaches the file to a loop device and mounts it. It
 // needs root.
@@ -262,14 +266,31 @@ func detach(data, device string) error {
 }
 
 // format makes a file system of ext4 on a device without contents that blkid recognizes. Any other
-// device stays unchanged.
+// device stays unchanged, and so does one whose start cannot be read.
 func format(device string) error {
+	if err := checkReadable(device); err != nil {
+		return err
+	}
 	_, err := output("blkid", "--probe", device)
 	var exitErr *exec.ExitError
 	if errors.As(err, &exitErr) && exitErr.ExitCode() == blkidNotFound {
 		return command("mkfs.ext4", "-q", device)
 	}
 	return err
+}
+
+// checkReadable reads the start of a device, where most contents have their marks. blkid recognizes
+// nothing on a device that cannot be read, and reports no error.
+func checkReadable(device string) error {
+	file, err := os.Open(device)
+	if err != nil {
+		return err
+	}
+	defer file.Close()
+	if _, err := io.CopyN(io.Discard, file, probedBytes); err != io.EOF {
+		return err
+	}
+	return nil
 }
 
 // isMounted reports whether the path is in the file system of the device, isDevice whether the path

@@ -116,3 +116,15 @@ func TestHelp(t *testing.T) {
 		})
 	}
 }
+
+// Words after the JSON of a call are refused, and not dropped.
+func TestMoreThanOneJSON(t *testing.T) {
+	const one = `{"volume_id":"vol-1"}`
+	for text, isGood := range map[string]bool{"": true, one: true, one + "\n": true, one + one: false, one + "}": false,
+		one + ` x`: false} {
+		request := new(deleteRequest)
+		if err := decodeJSON(text, request); (err == nil) != isGood {
+			t.Errorf("%q: got error %v, want none: %v", text, err, isGood)
+		}
+	}
+}
