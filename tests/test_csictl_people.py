@@ -179,6 +179,15 @@ class SlowPages(Pages):
             calls.read()
 
 
+class BusyPages(Pages):
+    """A server that closes each connection after one reply, as csid does while another one is ready."""
+
+    def play(self, peer, part):
+        with peer, peer.makefile("rb") as calls:
+            self.calls.append([next_call(calls)])
+            peer.sendall(part)
+
+
 class AskTest(CsictlTest):
     """A test that runs csictl over a socket. The line is split into words as a shell does it."""
 
@@ -240,6 +249,13 @@ class PeopleTest(AskTest):
         pages = SlowPages(self.folder, [[ok(THREE[0] + NEXT), ok(THREE[1] + THREE[2])]])
         self.check("two slow pages", self.ask(pages.path, "volumes --timeout 3"), (VOLUMES, "", 0))
         self.check("what was asked", len(pages.end()[0]), 2)
+
+    def test_connection_that_is_closed_between_two_calls(self):
+        """The second call is sent on a new connection. This is no further try."""
+        pages = BusyPages(self.folder, [NOT_KNOWN, ok(entry("v", MIB))])
+        asked = [[CONFIGURATION], [call(CONTROLLER + "ListVolumes", "")]]
+        out = "POOL  TOPOLOGY  VOLUMES  SIZE\n-     -         1        1 MiB\n"
+        self.compare("a server that closes after a reply", "pools", pages, asked, out, "", 0)
 
     @each(ROWS["CHANGES"])
     def test_change(self, line, method, message, reply, *wanted):

@@ -71,7 +71,7 @@ impl<'a> Wire<'a> {
 
     // Sends a call on the kept connection or a new one, and receives its reply. Keeps the connection if
     // `is_kept` is true and a reply came.
-    fn converse(&mut self, frame: &[u8]) -> io::Result<Received> {
+    fn converse_once(&mut self, frame: &[u8]) -> io::Result<Received> {
         let mut connection = self.connection()?;
         let received = self.ask(&mut connection, frame)?;
         self.is_http2 = connection.is_http2;
@@ -81,6 +81,20 @@ impl<'a> Wire<'a> {
             drop(connection);
         }
         Ok(received)
+    }
+
+    // Sends a call on the kept connection or a new one, and receives its reply. If the write or the read
+    // fails on the kept connection, sends the call on a new connection: the server closed the kept one before
+    // it read the call, as `csid` does for another connection.
+    fn converse(&mut self, frame: &[u8]) -> io::Result<Received> {
+        let was_kept = self.kept.is_some();
+        match self.converse_once(frame) {
+            Ok(Received::Failed) if was_kept => self.converse_once(frame),
+            Err(error) if was_kept && error.kind() == ErrorKind::BrokenPipe => {
+                self.converse_once(frame)
+            }
+            exchanged => exchanged,
+        }
     }
 }
 
