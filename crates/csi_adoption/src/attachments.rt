@@ -114,8 +114,7 @@ pub(crate) fn see_attachments<S: Alter>(
 }
 
 /// Returns the first attachment, in rising order of volume numbers, whose volume does not exist or does not
-/// have the attachment's capability. Returns `None` if there is no such attachment. Fails if the database or
-/// memory fails.
+/// have the attachment's capability. Returns `None` if there is no such attachment.
 pub(crate) fn see_owners<S: Alter>(
     alloc: Global,
     conn: &mut IdleConnection<S>,
@@ -136,8 +135,7 @@ pub(crate) fn see_owners<S: Alter>(
 }
 
 /// Returns the first attachment, in rising order of volume numbers, that cannot coexist with an earlier
-/// attachment of its volume. Returns `None` if there is no such attachment. Fails if the database or memory
-/// fails.
+/// attachment of its volume. Returns `None` if there is no such attachment.
 pub(crate) fn see_apart<S: Alter>(
     alloc: Global,
     conn: &mut IdleConnection<S>,

@@ -34,8 +34,7 @@ fn set_head(reply: &mut Vec<u8>)
 }
 
 /// Writes the reply to a call and flushes the writer. The head and the body are passed to the writer
-/// together, so they go out in one write if the writer takes all of their bytes. After an error, a prefix of
-/// the reply was written, which may be empty or complete.
+/// together, so they go out in one write if the writer takes all of their bytes.
 #[inline(always)]
 pub(crate) fn put_reply<W: Write>(
     writer: &mut W,
@@ -58,8 +57,7 @@ pub(crate) fn put_reply<W: Write>(
     }
 }
 
-/// Writes the reply that refuses a malformed frame, and flushes the writer. After an error, a prefix of the
-/// reply was written, which may be empty or complete.
+/// Writes the reply that refuses a malformed frame, and flushes the writer.
 pub(crate) fn put_fault<W: Write>(writer: &mut W, fault: &FrameFault) -> io::Result<()>
     ensures all { OnOk result (Appends (W.contents writer.old) (W.contents writer.new)
         (fault_frame fault.now)) }

@@ -52,7 +52,7 @@ impl<T> Items<T> {
         Self { vec }
     }
 
-    /// Returns the values as a vector, without allocating.
+    /// Returns the vector that contains the values.
     pub fn into_vec(self) -> Vec<T>
         ensures { result.items ≡ self }
     {

@@ -136,7 +136,7 @@ impl Text {
         }
     }
 
-    /// Borrows the text as a `&str`, without copying it.
+    /// Returns the text as a `&str`.
     pub fn as_str(&self) -> &str
         ensures bytes { result.now ≡ self.now }
         ensures utf8 { IsUtf8 self.now }

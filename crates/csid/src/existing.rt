@@ -20,16 +20,19 @@ const CELLS_AT: usize = 103;
 // The kind of a page that is a leaf of a table.
 const LEAF: u8 = 13;
 
-// The greatest number of bytes of memory that an opening takes for one byte of the file: six for the row, and
-// one for the page that the opening keeps.
-const OPENING_FACTOR: u64 = 7;
+// The greatest number of bytes of memory that an opening takes for one byte of the file. This includes the
+// pages that the opening keeps.
+const OPENING_FACTOR: u64 = 6;
 
 // The number of pages that each opening may keep in memory, even if a 32nd of the process's limit of memory
 // is less.
 const LEAST_CACHE_PAGES: u64 = 2000;
 
-// The greatest number of bytes of pages that an opening keeps in memory: 64 MiB. The opening keeps all pages
-// of a smaller file, since it reads the index of names in random order.
+// An opening keeps at most half of the pages of a file in memory. The index of names has a third of the
+// file's pages, and an opening reads them in random order.
+const CACHE_SHARE: u64 = 2;
+
+// The greatest number of bytes of pages that an opening keeps in memory: 64 MiB.
 const CACHE_BYTES: u64 = 1 << 26;
 
 // If the process has a limit of memory, the pages take at most a 32nd of the limit.
@@ -139,9 +142,9 @@ fn bytes_of(rt: &HostRuntime, path: &str, pages: Pages) -> io::Result<u64> {
 /// Limits of the memory that an opening of a file takes.
 #[derive(Clone, Copy)]
 pub(crate) struct OpeningLimits {
-    /// The greatest number of bytes of memory that the opening takes: seven times the bytes of the file and
-    /// its WAL, without free pages. A short row takes less than six times its length in memory, and a long
-    /// row less than twice. The pages that the opening keeps take their own length.
+    /// The greatest number of bytes of memory that the opening takes: six times the bytes of the file and its
+    /// WAL, without free pages. A short row takes less than six times its length in memory, and a long row
+    /// less than twice.
     pub(crate) bytes: usize,
     /// The greatest number of pages of the file that the opening keeps in memory.
     pub(crate) cache_pages: usize,
@@ -155,8 +158,8 @@ fn limited(count: u64, most: u64) -> u64
     count.min(most).max(LEAST_CACHE_PAGES)
 }
 
-// Returns the number of pages that an opening of a file with `count` pages keeps in memory. The limit of the
-// process's memory is read only if the file has more than 2,000 pages.
+// Returns the number of pages that an opening keeps in memory, if it should keep `count` pages. The limit of
+// the process's memory is read only if `count` is more than 2,000.
 fn cache_pages(rt: &HostRuntime, count: u64, page_bytes: u64) -> u64
     ensures least { 2000 ≤ result }
     ensures most { (result ≡ 2000) ⊎ (result ≤ count) }
@@ -183,7 +186,7 @@ pub(crate) fn opening_limits(rt: &HostRuntime, path: &str) -> OpeningLimits
     let count = bytes.checked_div(pages.bytes).unwrap_or(0);
     OpeningLimits {
         bytes: bytes.saturating_mul(OPENING_FACTOR) as usize,
-        cache_pages: cache_pages(rt, count, pages.bytes) as usize,
+        cache_pages: cache_pages(rt, count / CACHE_SHARE, pages.bytes) as usize,
     }
 }
 

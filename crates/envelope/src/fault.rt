@@ -29,8 +29,7 @@ pub trait Fault: Copy + Drop {
 
     ghost cut_at: { ℕ → Self };
 
-    /// Returns the kind of frame that the fault is about: a call, which a client sends, or a reply, which a
-    /// server sends.
+    /// Returns the kind of the frames in the stream.
     fn kind() -> FrameKind
         ensures { result ≡ kind };
 
