@@ -1,7 +1,7 @@
 """Makes streams of calls for the benches, with the expected replies (docs/PROTOCOL.md, docs/MACHINE.md).
 
-The configuration has one pool of 2^62 bytes without segments, and the node n1. The volumes are v1, v2 and so
-on, of 1 MiB each, in the order of their numbers.
+The configuration has one pool of 2^62 bytes without segments, and the node n1. The volumes have 1 MiB each.
+In the order of their numbers they are named v1, v2 and so on, unless `creates` is given other names.
 """
 import contextlib
 import sqlite3

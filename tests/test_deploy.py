@@ -623,7 +623,8 @@ class DeployTest(RowTest):
         self.check_verified(UNITS + [ETCD_UNIT], DIFFERENCES)
 
     def check_verified(self, names, differences):
-        """Checks units in a folder, some with a drop-in."""
+        """Checks that systemd accepts these units and reports little exposure. They are copied into a folder,
+        with /bin/true as their programs. `differences` has, by unit, the file of a drop-in."""
         with tempfile.TemporaryDirectory() as folder:
             for name, place in [(it, it) for it in names] + [(file, unit + ".d/etcd.conf")
                                                              for unit, file in differences.items()]:

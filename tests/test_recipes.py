@@ -229,7 +229,8 @@ class RecipesTest(RecipeTest):
                        (has(1, 0, 2, format=1), "", 0))
 
     def test_pages(self):
-        """A file of an earlier release is adopted, and keeps the size of its pages."""
+        """A file of an earlier release is adopted, and keeps the size of its pages. The recipe 'Smaller
+        pages' then makes them smaller and keeps the rows. Its copy of the file has the earlier size."""
         with Place(self.csictl, self.csid) as place:
             size = "PRAGMA page_size"
             self.check("the pages of a file that is made", place.in_folder('sqlite3 volumes.db "%s"' % size),

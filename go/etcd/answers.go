@@ -20,7 +20,8 @@ type malformed string
 // Error returns "etcd's answer is malformed: " and the part that is missing or wrong.
 func (m malformed) Error() string { return "etcd's answer is malformed: " + string(m) }
 
-// checkUnary is an interceptor that checks the answer to a call with one request and one answer.
+// checkUnary is the interceptor of calls with one answer. If checkAnswer refuses the answer, the
+// call fails with that error.
 func checkUnary(ctx context.Context, method string, request, reply interface{}, conn *grpc.ClientConn,
 	invoke grpc.UnaryInvoker, options ...grpc.CallOption) error {
 	if err := invoke(ctx, method, request, reply, conn, options...); err != nil {

@@ -29,7 +29,9 @@ type certificates struct {
 	leaf  *x509.Certificate
 }
 
-// readCertificates reads the files that the options name.
+// readCertificates reads the file of --cacert, and the files of --cert and --key. The fields of an
+// option that is not given stay nil. The error names the option. A file of --cacert without a
+// certificate is an error.
 func readCertificates(opts options) (certs certificates, err error) {
 	if opts.cacert != "" {
 		text, err := os.ReadFile(opts.cacert)

@@ -227,8 +227,8 @@ func (b *backend) send() {
 // load moves waiting calls to the calls on their way, and reports whether it moved any. It stops at
 // a call that may not be sent now, and after a call whose message is too long to be copied. A call
 // whose caller no longer waits is dropped. A call whose deadline is likely to pass before its reply
-// lets the other calls go first, once: without this, most calls of too many callers would be sent,
-// and then given up before their replies.
+// goes behind the other waiting calls, once. Otherwise, with more callers than csid can serve, most
+// calls would be sent and then given up before their replies.
 func (b *backend) load(conn *connection) (any bool) {
 	for b.waiting.Len() > 0 && conn.message == nil {
 		c := b.waiting.Front().Value.(*call)

@@ -52,8 +52,9 @@ CREATE = (create(block(1)), CREATED)
 
 
 def calls(capability, replies):
-    """Returns the calls with a capability, each with its reply from `replies`. The second of `replies` are
-    the steps after the create."""
+    """Returns four calls with a capability, each with its reply: a create, a publish, a validation and a
+    question for the capacity. `replies` has five items. The second is not a reply, but a list of further
+    calls with their replies, which follow the create."""
     return [(create(capability), replies[0]), *replies[1],
             (publish(N1, capability), replies[2]),
             (call("ValidateVolumeCapabilities", unhex(VOL_1 + "1a" + capability)), replies[3]),

@@ -43,7 +43,8 @@ func (l *ledger) strike(id string) {
 	delete(l.nodes, id)
 }
 
-// cluster has the sidecars of one cluster, and its volumes.
+// cluster plays csi-provisioner and csi-attacher in one cluster, and notes in its ledger which
+// volumes exist according to their replies.
 type cluster struct {
 	*provisioner
 	*attacher
@@ -103,8 +104,9 @@ func workers(count int, claims []claim, take func(i int, c claim)) {
 	})
 }
 
-// killUntil kills csid and starts it again until over is closed, each time 100 to 300 ms after csid
-// answers. It returns the number of kills.
+// killUntil kills csid and starts it again until over is closed, and returns the number of kills.
+// After each start of csid, a sidecar must come up. The next kill follows 100 to 300 ms later,
+// times slowness.
 func killUntil(t *testing.T, csid *processes.Server, front string, random *rand.Rand,
 	over <-chan struct{}) (kills int) {
 	t.Helper()
