@@ -29,7 +29,9 @@ type certificates struct {
 	leaf  *x509.Certificate
 }
 
-// readCertificates reads the files that the options name.
+// readCertificates reads the files of --cacert, --cert and --key. Fields without an option stay
+// nil. A file that cannot be read or has no certificate is an error, and so is a key that does not
+// fit the certificate of --cert. The error names the option.
 func readCertificates(opts options) (certs certificates, err error) {
 	if opts.cacert != "" {
 		text, err := os.ReadFile(opts.cacert)

@@ -85,7 +85,8 @@ func (l *lease) keepAlive(ctx context.Context) error {
 	return <-done
 }
 
-// waitExpired returns when the lease has expired or the context has ended.
+// waitExpired waits until the lease has expired or the context has ended. It returns errLeaseOver
+// or the error of the context.
 func (l *lease) waitExpired(ctx context.Context) error {
 	for {
 		remaining := l.remaining()

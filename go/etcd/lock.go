@@ -64,7 +64,7 @@ type candidate struct {
 // init sets the refusal of calls that arrive before the first answer of etcd.
 func (c *candidate) init() { c.state.set(nil, refuse("waiting for the lock: etcd was not asked yet")) }
 
-// run campaigns for the lock until the context ends.
+// run campaigns again and again until the context ends, with waitingPause between two campaigns.
 func (c *candidate) run(ctx context.Context) {
 	for ctx.Err() == nil {
 		if err := c.campaign(ctx); ctx.Err() == nil {

@@ -78,7 +78,8 @@ func (m *members) watchCertificates(ctx context.Context) {
 	}
 }
 
-// dial opens a connection to the endpoint.
+// dial opens a connection to an endpoint, and notes the endpoint under the address that was
+// reached. If this fails, it notes why the member is unreachable.
 func (m *members) dial(ctx context.Context, to string) (net.Conn, error) {
 	conn, err := endpoint.Dialer(ctx, to)
 	if err != nil {

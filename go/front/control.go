@@ -110,7 +110,8 @@ func (c *control) close() {
 	}
 }
 
-// stop makes the control socket take no further calls. Running calls go on.
+// stop closes the control socket, and ends its connections on which no complete call has come.
+// Running calls go on.
 func (c *control) stop() {
 	if c == nil {
 		return
@@ -153,7 +154,8 @@ func (c *control) answerAll(conn *clientConn) {
 	}
 }
 
-// carriesOut carries a call out, and reports whether the reply was written.
+// carriesOut answers one call. It returns false if the call gets no reply, or if its reply cannot
+// be written.
 func (c *control) carriesOut(conn *clientConn, request frames.Request) bool {
 	conn.begin()
 	defer conn.end()

@@ -78,7 +78,8 @@ func link(data, path string) error {
 	return err
 }
 
-// unlink removes the link to a volume's data, and nothing else.
+// unlink removes the file at `path` if it is a symbolic link to a volume's data. Any other file
+// there stays, and is no error.
 func unlink(data, path string) error {
 	ok, err := isLinkTo(path, data)
 	if !ok || err != nil {

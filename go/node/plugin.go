@@ -192,12 +192,12 @@ func (p *plugin) dataOf(request *stageRequest) (string, error) {
 	return filepath.Join(folder, p.file(request.VolumeID)), nil
 }
 
-// find returns the path of a volume's data in any of the pools, or "" if there are none.
+// find returns the path of a volume's data in any of the pools, or "" if no pool has the data.
 func (p *plugin) find(id string) (string, error) {
 	return p.pools.find(p.file(id))
 }
 
-// file returns the file name of a volume's data.
+// file returns the file name of a volume's data: the id, and then the suffix of the storage.
 func (p *plugin) file(id string) string {
 	return id + p.storage.suffix()
 }

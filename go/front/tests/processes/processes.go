@@ -103,7 +103,8 @@ func (p *Process) Kill() {
 	<-p.Ended
 }
 
-// Status waits until a process has ended by itself, and returns its exit status.
+// Status waits until a process has ended, and returns its exit status. After Patience it fails the
+// test.
 func (p *Process) Status(t *testing.T) int {
 	t.Helper()
 	select {

@@ -43,7 +43,8 @@ func (l *ledger) strike(id string) {
 	delete(l.nodes, id)
 }
 
-// cluster has the sidecars of one cluster, and its volumes.
+// cluster plays csi-provisioner and csi-attacher of one cluster. The ledger has the node of each
+// volume by the replies, or "" for a volume at no node.
 type cluster struct {
 	*provisioner
 	*attacher
@@ -103,8 +104,9 @@ func workers(count int, claims []claim, take func(i int, c claim)) {
 	})
 }
 
-// killUntil kills csid and starts it again until over is closed, each time 100 to 300 ms after csid
-// answers. It returns the number of kills.
+// killUntil kills csid and starts it again, until over is closed. Before each kill it waits for 100
+// to 300 ms, times slowness. After each kill it waits until a sidecar has come up. It returns the
+// number of kills.
 func killUntil(t *testing.T, csid *processes.Server, front string, random *rand.Rand,
 	over <-chan struct{}) (kills int) {
 	t.Helper()

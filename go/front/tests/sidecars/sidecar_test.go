@@ -88,7 +88,8 @@ type sidecar struct {
 	repeats int32
 }
 
-// startSidecar starts a sidecar as a kubelet does: if the start fails, it starts the sidecar again.
+// startSidecar starts a sidecar as a kubelet does: if the start fails, it starts the sidecar again
+// after restartPause. If no start succeeds within patience, the test fails.
 func startSidecar(t *testing.T, socket string) *sidecar {
 	t.Helper()
 	for end := time.Now().Add(patience); ; time.Sleep(restartPause) {

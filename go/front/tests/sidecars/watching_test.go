@@ -84,7 +84,8 @@ func TestCapacity(t *testing.T) {
 	}
 }
 
-// churn creates the volume of a claim, and attaches and detaches it in each round.
+// churn creates the volume of a claim, and attaches and detaches it in each round. It ends at the
+// first error, which it returns.
 func (k *cluster) churn(c claim, rounds int) error {
 	v, err := k.provision(c)
 	for ; err == nil && rounds > 0; rounds-- {

@@ -95,7 +95,7 @@ func (r *Requests) message() ([]byte, error) {
 	return r.take(int(size))
 }
 
-// take reads size bytes. If the stream ends before, it counts the bytes that came.
+// take reads size bytes. Also if the stream ends before, it adds the bytes that came to `read`.
 func (r *Requests) take(size int) ([]byte, error) {
 	taken := make([]byte, size)
 	length, err := io.ReadFull(r.in, taken)
