@@ -407,8 +407,8 @@ func (b *backend) served(conn *connection) {
 
 // lose forgets a closed connection, after reading a reply failed with err. Calls that csid cannot
 // have carried out are sent again over the next connection, each once, before the calls that wait.
-// The other calls of the connection end with an error. If the connection gave no reply at all, all
-// of its calls and all waiting calls end with an error.
+// The other calls of the connection end with an error. If calls were sent over the connection and
+// none got a reply, all of them and all waiting calls end with an error.
 func (b *backend) lose(conn *connection, err error) {
 	b.mutex.Lock()
 	defer b.mutex.Unlock()

@@ -140,7 +140,7 @@ func (c *caller) all(t *testing.T, calls int) map[uint32]result {
 	return all
 }
 
-// served waits until this many calls have their own replies.
+// served waits for the outcomes of this many calls, and checks that each is the call's own reply.
 func (c *caller) served(t *testing.T, calls int) {
 	t.Helper()
 	for number, got := range c.all(t, calls) {

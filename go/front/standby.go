@@ -24,10 +24,10 @@ const (
 	mostStandby  = time.Hour
 )
 
-// standBy makes the socket when csid is ready, and serves until csid has given no reply for the
-// time of --standby. It returns the exit status. An orchestrator's sidecars wait for a missing
-// socket, but end if their first Probe is answered UNAVAILABLE. With a node plugin it calls
-// serveWhileItWaits instead.
+// standBy makes the socket when csid is ready. It serves until csid has given no reply for the time
+// of --standby, or until the front fails or gets a signal. It returns the exit status. An
+// orchestrator's sidecars wait for a missing socket, but end if their first Probe is answered
+// UNAVAILABLE. With a node plugin it calls serveWhileItWaits instead.
 func (f *front) standBy() int {
 	if err := startMonitor(f.handler, f.asked, f.failed); err != nil {
 		return f.fails(err, noSocket)
