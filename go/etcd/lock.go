@@ -256,7 +256,8 @@ type queue struct {
 	holder          string
 }
 
-// queue reads the keys of all candidates.
+// queue reads the keys of all candidates. The holder is the value of the key that was created
+// first, or "" if there is no key.
 func (t *term) queue() (queue, error) {
 	least := t.revisions.least()
 	order := clientv3.WithSort(clientv3.SortByCreateRevision, clientv3.SortAscend)

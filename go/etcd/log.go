@@ -28,7 +28,7 @@ type logger struct {
 	isTimed bool
 }
 
-// jsonLine has the fields of a line in JSON.
+// jsonLine has the fields of a line in JSON, in the order in which they are written.
 type jsonLine struct {
 	Time    time.Time `json:"time"`
 	Level   string    `json:"level"`

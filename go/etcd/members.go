@@ -45,7 +45,8 @@ func (m *members) isSecure() bool {
 	return scheme == "https" || scheme == "" && (m.opts.cacert != "" || m.opts.cert != "")
 }
 
-// certificates reads the files, and writes a line if their certificates have changed.
+// certificates reads the files, and writes a line if their certificates have changed since the last
+// reading. The first reading counts as a change.
 func (m *members) certificates() (certificates, error) {
 	read, err := readCertificates(m.opts)
 	if err != nil {

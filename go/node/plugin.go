@@ -51,7 +51,8 @@ type storage interface {
 	usage(data, path string) (*usage, error)
 }
 
-// plugin serves the Identity and the Node service.
+// plugin serves the Identity and the Node service. Its storage decides if volumes are folders or
+// devices.
 type plugin struct {
 	name       string
 	info       nodeInfo

@@ -165,7 +165,8 @@ type filling struct {
 	made int
 }
 
-// add adds a volume, and reports whether it was refused for want of space.
+// add adds a volume, and reports whether it was refused for want of space. If there is no reply,
+// etcd must have made the change, and `made` counts it.
 func (f *filling) add(t *testing.T) (isFull bool) {
 	t.Helper()
 	params := "\x22\x84\x08" + strings.Repeat("x", 1028)

@@ -508,7 +508,8 @@ func (f *fleet) kill(client *clientv3.Client) {
 	}
 }
 
-// killOnce kills a victim while the fleet serves, and returns the time until it serves again.
+// killOnce kills a victim while the fleet serves, and returns the time until it serves again. A
+// time above the limit for this victim fails the test.
 func (f *fleet) killOnce(client *clientv3.Client, random *rand.Rand, who victim) time.Duration {
 	begin := time.Now()
 	var s *stack
