@@ -51,8 +51,8 @@ type storage interface {
 	usage(data, path string) (*usage, error)
 }
 
-// plugin serves the Identity and the Node service. Its storage decides if volumes are folders or
-// devices.
+// plugin serves the Identity and the Node service. Its storage keeps each volume as a folder, or as
+// a file with a loop device.
 type plugin struct {
 	name       string
 	info       nodeInfo

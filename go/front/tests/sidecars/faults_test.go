@@ -94,8 +94,8 @@ func (k *cluster) lead(c claim, stage int) error {
 	return nil
 }
 
-// workers runs several workers of a sidecar, and waits until they end. Each takes its share of the
-// claims.
+// workers runs `count` workers of a sidecar at once, and waits until they end. Each worker calls
+// take for its share of the claims, in turn.
 func workers(count int, claims []claim, take func(i int, c claim)) {
 	processes.Together(count, func(worker int) {
 		for i := worker; i < len(claims); i += count {

@@ -103,8 +103,8 @@ func startSidecar(t *testing.T, socket string) *sidecar {
 	}
 }
 
-// comeUp runs the start of a sidecar. If the start fails, it returns the error, with which the
-// sidecar ends.
+// comeUp runs the start of a sidecar: its first Probe, and its questions for the driver's name and
+// capabilities. It returns the error after which the sidecar would end.
 func comeUp(t *testing.T, socket string) (*sidecar, error) {
 	t.Helper()
 	conn, err := grpc.Dial("unix:"+socket, grpc.WithInsecure(), grpc.WithBlock(), grpc.WithTimeout(patience))

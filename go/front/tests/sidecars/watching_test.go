@@ -18,8 +18,9 @@ func (p *provisioner) wantsCapacity(t *testing.T, zone string, want int64) {
 	}
 }
 
-// poll asks for the free bytes of each zone until over is closed, and returns how often it asked.
-// It checks that they are never negative and never more than the bytes of a pool.
+// poll asks for the capacity of all zones again and again until over is closed, and returns the
+// number of rounds. It checks that the free bytes are neither negative nor more than the bytes of a
+// pool, and that the greatest size of a volume is neither negative nor more than the free bytes.
 func (p *provisioner) poll(t *testing.T, pool int64, over <-chan struct{}) (polls int) {
 	t.Helper()
 	for ; ; polls++ {
