@@ -160,7 +160,8 @@ type onTheirWay struct {
 	connections *int32
 }
 
-// sends returns a backend with count calls on their way. contexts has the contexts of some of them.
+// sends returns a backend with count calls on their way. contexts maps the numbers of some of these
+// calls to their contexts.
 func sends(t *testing.T, count int, contexts map[uint32]context.Context) *onTheirWay {
 	t.Helper()
 	return sendsBefore(t, count, contexts, serves)
