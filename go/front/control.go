@@ -110,8 +110,8 @@ func (c *control) close() {
 	}
 }
 
-// stop closes the control socket, and ends its connections on which no complete call has come.
-// Running calls go on.
+// stop closes the control socket, and ends its connections without a running call. A running call
+// goes on, and its connection ends after it. If c is nil, stop does nothing.
 func (c *control) stop() {
 	if c == nil {
 		return

@@ -236,7 +236,7 @@ type caller struct {
 var volumeID = regexp.MustCompile(`vol-[0-9]+`)
 
 // step creates, modifies, publishes, unpublishes or deletes a volume, chosen at random, and notes
-// the replies. It makes each CreateVolume a second time, which must return the same id.
+// the replies. After a create with OK it repeats the create, which must return the same id.
 func (c *caller) step() {
 	if len(c.volumes) == 0 || (len(c.volumes) < 7 && c.random.Intn(3) == 0) {
 		c.create()

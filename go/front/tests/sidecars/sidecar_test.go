@@ -192,7 +192,8 @@ func isFinal(err error) bool {
 	return true
 }
 
-// repeat makes a call until it succeeds or has a final error, with pauses that grow.
+// repeat makes a call until it succeeds or has a final error. The pauses between two attempts
+// double, up to longestPause. After patience it returns an error.
 func (s *sidecar) repeat(path string, request, response interface{}) error {
 	end, pause := time.Now().Add(patience), firstPause
 	for {
