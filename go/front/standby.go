@@ -162,10 +162,10 @@ func soonReady(ctx context.Context, check func(context.Context) error, length ti
 	return check(ctx)
 }
 
-// livez answers 503 if csid hangs: no reply came for questionTime, and this request's own Probe
-// timed out, or the front closed the connection of this Probe for a late reply. Otherwise it
-// answers "ok". A csid that closes each connection, since another csid has the lock, does not hang.
-// A csid that answers other calls before the Probe does not hang either.
+// livez answers 503 if csid hangs: no reply came for questionTime, and the Probe of this request
+// got no turn in time, timed out, or was lost when the front closed its connection for a late
+// reply. Otherwise it answers "ok". A csid that closes each connection, since another csid has the
+// lock, does not hang. A csid that answers other calls before the Probe does not hang either.
 func (h *handler) livez(answer http.ResponseWriter, request *http.Request) {
 	err := h.checkInTurn(request.Context(), h.isCsidReady)
 	isUnanswered := status.Code(err) == codes.DeadlineExceeded || reason(err) == h.backend.lateReply().Error()
