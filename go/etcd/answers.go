@@ -20,8 +20,8 @@ type malformed string
 // Error returns "etcd's answer is malformed: " and the part that is missing or wrong.
 func (m malformed) Error() string { return "etcd's answer is malformed: " + string(m) }
 
-// checkUnary is the interceptor of calls with one answer. If checkAnswer refuses the answer, the
-// call fails with that error.
+// checkUnary is an interceptor for calls with one request and one answer. If the answer is
+// malformed, the call fails with the error of checkAnswer.
 func checkUnary(ctx context.Context, method string, request, reply interface{}, conn *grpc.ClientConn,
 	invoke grpc.UnaryInvoker, options ...grpc.CallOption) error {
 	if err := invoke(ctx, method, request, reply, conn, options...); err != nil {
@@ -30,7 +30,8 @@ func checkUnary(ctx context.Context, method string, request, reply interface{}, 
 	return checkAnswer(request, reply)
 }
 
-// checkStream is an interceptor that checks each answer of a stream.
+// checkStream is an interceptor for streams. It returns a checkedStream, so the first malformed
+// answer is an error of RecvMsg.
 func checkStream(ctx context.Context, description *grpc.StreamDesc, conn *grpc.ClientConn, method string,
 	open grpc.Streamer, options ...grpc.CallOption) (grpc.ClientStream, error) {
 	stream, err := open(ctx, description, conn, method, options...)
@@ -43,7 +44,8 @@ func checkStream(ctx context.Context, description *grpc.StreamDesc, conn *grpc.C
 // checkedStream is a stream whose RecvMsg refuses malformed answers.
 type checkedStream struct{ grpc.ClientStream }
 
-// RecvMsg receives the next answer of the stream, and refuses a malformed one.
+// RecvMsg receives the next answer of the stream into reply. If the answer is malformed, it returns
+// the error of checkAnswer.
 func (s checkedStream) RecvMsg(reply interface{}) error {
 	if err := s.ClientStream.RecvMsg(reply); err != nil {
 		return err

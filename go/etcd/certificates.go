@@ -29,9 +29,9 @@ type certificates struct {
 	leaf  *x509.Certificate
 }
 
-// readCertificates reads the file of --cacert, and the files of --cert and --key. The fields of an
-// option that is not given stay nil. The error names the option. A file of --cacert without a
-// certificate is an error.
+// readCertificates reads the files of --cacert, --cert and --key. Fields without an option stay
+// nil. A file that cannot be read or has no certificate is an error, and so is a key that does not
+// fit the certificate of --cert. The error names the option.
 func readCertificates(opts options) (certs certificates, err error) {
 	if opts.cacert != "" {
 		text, err := os.ReadFile(opts.cacert)

@@ -8,7 +8,8 @@ import (
 	"google.golang.org/grpc/codes"
 )
 
-// change is a change of the rows in etcd, requested by csid.
+// change is one change of the rows in etcd: makeMeta for the call Make, or one of the types below
+// for the call Commit.
 type change interface {
 	// plan returns the transaction of the change. It may read rows first.
 	plan(ctx context.Context, t *term) (plan, error)

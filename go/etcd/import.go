@@ -171,10 +171,11 @@ func (i *importer) found(locks, there []*mvccpb.KeyValue) error {
 	return nil
 }
 
-// write makes one transaction. The first one compares that the plugin has no key, so at most one of
-// several imports continues. Each later one compares that the lock has no key, and that the first
-// key is still the key that this import created. So a transaction that arrives late, after the rows
-// were removed by hand, fails.
+// write makes one transaction of an import, and compares that none of its keys exists. The first
+// transaction also compares that the plugin has no key, so at most one of several imports
+// continues. Each later one also compares that the lock has no key, and that the first key is still
+// the key that this import created. So a transaction that arrives late, after the rows were removed
+// by hand, fails.
 func (i *importer) write(rows []importLine) error {
 	k := i.keys
 	var compares []clientv3.Cmp

@@ -13,7 +13,7 @@ import (
 )
 
 // lease is a lease of etcd that is kept alive. Each renewal that etcd answers sets the expiry to
-// the length of the lease after the moment at which this process sent the request. etcd counts from
+// the moment at which this process sent the request, plus the length of the lease. etcd counts from
 // the moment at which it received the request, which is later, so the lease never expires in etcd
 // before it expires here. An answer that arrives late, for example after a stop of this process,
 // still counts from the moment of its request.
@@ -85,7 +85,8 @@ func (l *lease) keepAlive(ctx context.Context) error {
 	return <-done
 }
 
-// waitExpired returns when the lease has expired or the context has ended.
+// waitExpired waits until the lease has expired or the context has ended. It returns errLeaseOver
+// or the error of the context.
 func (l *lease) waitExpired(ctx context.Context) error {
 	for {
 		remaining := l.remaining()

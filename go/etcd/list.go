@@ -104,7 +104,7 @@ func readListed(row volume) (*listedVolume, error) {
 	return read, nil
 }
 
-// volumeFilter selects the volumes that have all given values. An empty value selects all.
+// volumeFilter selects the volumes that have all given values. An empty text is no condition.
 type volumeFilter struct{ id, volume, pool, node string }
 
 func (f volumeFilter) matches(v *listedVolume) bool {
@@ -116,7 +116,8 @@ func (f volumeFilter) matches(v *listedVolume) bool {
 		(f.pool == "" || v.pool == f.pool)
 }
 
-// readAll reads all volumes at one revision. Volumes are sorted by number, their nodes by id.
+// readAll reads all volumes at one revision. Volumes are sorted by number, their nodes by id. An
+// attachment without a volume is left out.
 func (r *snapshot) readAll(k keys) (volumes []*listedVolume, err error) {
 	found := map[uint64]*listedVolume{}
 	var at []attachment

@@ -222,7 +222,8 @@ func encode(value interface{}) ([]byte, error) {
 	return bytes.TrimSuffix(text.Bytes(), []byte("\n")), err
 }
 
-// entries returns an object for each sum, with its name under the given key.
+// entries returns an object for each name: the name under the given key, and its sums under
+// "volumes" and "bytes".
 func (s sums) entries(key string) []map[string]interface{} {
 	entries := make([]map[string]interface{}, 0, len(s))
 	for _, name := range s.names() {
@@ -231,7 +232,8 @@ func (s sums) entries(key string) []map[string]interface{} {
 	return entries
 }
 
-// writeJSON writes one JSON document, with a line for each volume.
+// writeJSON writes one JSON document: a line for each volume, a line with the sums of all pools,
+// and a line with the sums of all nodes.
 func writeJSON(out *bufio.Writer, volumes []*listedVolume) error {
 	out.WriteString(`{"volumes":[`)
 	for i, v := range volumes {

@@ -64,7 +64,7 @@ type candidate struct {
 // init sets the refusal of calls that arrive before the first answer of etcd.
 func (c *candidate) init() { c.state.set(nil, refuse("waiting for the lock: etcd was not asked yet")) }
 
-// run campaigns for the lock until the context ends.
+// run campaigns again and again until the context ends, with waitingPause between two campaigns.
 func (c *candidate) run(ctx context.Context) {
 	for ctx.Err() == nil {
 		if err := c.campaign(ctx); ctx.Err() == nil {
@@ -256,7 +256,8 @@ type queue struct {
 	holder          string
 }
 
-// queue reads the keys of all candidates.
+// queue reads the keys of all candidates. The holder is the value of the key that was created
+// first, or "" if there is no key.
 func (t *term) queue() (queue, error) {
 	least := t.revisions.least()
 	order := clientv3.WithSort(clientv3.SortByCreateRevision, clientv3.SortAscend)

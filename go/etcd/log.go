@@ -28,7 +28,7 @@ type logger struct {
 	isTimed bool
 }
 
-// jsonLine has the fields of a line in JSON.
+// jsonLine has the fields of a line in JSON, in the order in which they are written.
 type jsonLine struct {
 	Time    time.Time `json:"time"`
 	Level   string    `json:"level"`
@@ -56,7 +56,7 @@ func (l *logger) write(level, format string, args []interface{}) {
 func (l *logger) infof(format string, args ...interface{}) { l.write(logqueue.Info, format, args) }
 func (l *logger) warnf(format string, args ...interface{}) { l.write(logqueue.Warn, format, args) }
 
-// fails writes why the program ends.
+// fails writes why the program ends, as a line of level error.
 func (l *logger) fails(err error) { l.write(logqueue.Error, "%v", []interface{}{err}) }
 
 // Write writes a line of a library that uses Go's log, as a warning.

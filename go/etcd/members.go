@@ -45,7 +45,8 @@ func (m *members) isSecure() bool {
 	return scheme == "https" || scheme == "" && (m.opts.cacert != "" || m.opts.cert != "")
 }
 
-// certificates reads the files, and writes a line if their certificates have changed.
+// certificates reads the files, and writes a line if their certificates have changed since the last
+// reading. The first reading counts as a change.
 func (m *members) certificates() (certificates, error) {
 	read, err := readCertificates(m.opts)
 	if err != nil {
@@ -78,7 +79,8 @@ func (m *members) watchCertificates(ctx context.Context) {
 	}
 }
 
-// dial opens a connection to the endpoint.
+// dial opens a connection to an endpoint, and notes the endpoint under the address that was
+// reached. If this fails, it notes why the member is unreachable.
 func (m *members) dial(ctx context.Context, to string) (net.Conn, error) {
 	conn, err := endpoint.Dialer(ctx, to)
 	if err != nil {

@@ -111,7 +111,7 @@ func sendOnce(ctx context.Context, method string, request, reply interface{}, co
 	return last.err
 }
 
-// isTokenError reports whether etcd refused the token of a call, and so looked at nothing else.
+// isTokenError reports whether etcd refused the token of a call. Such a call was not carried out.
 func isTokenError(err error) bool {
 	switch rpctypes.Error(err) {
 	case rpctypes.ErrUserEmpty, rpctypes.ErrInvalidAuthToken, rpctypes.ErrAuthOldRevision:

@@ -219,7 +219,8 @@ func (c *connection) read(ctx context.Context, t *term, message []byte) (page []
 	return page, nil
 }
 
-// drop closes the newest connection at once.
+// drop closes the newest connection at once, even during a call. If there is no connection, it does
+// nothing.
 func (s *server) drop() {
 	s.mutex.Lock()
 	defer s.mutex.Unlock()

@@ -39,8 +39,8 @@ type term struct {
 
 // isOver reports whether the term has ended, its lease has ended by this program's own clock, or an
 // answer came from an older snapshot. In the first two cases this program may have lost the lock.
-// In the last one it keeps the lock, so that no program serves that remembers less, and the next
-// read of the queue ends the use of the term.
+// In the last case it keeps the lock: otherwise a program that knows only lower revisions could
+// serve. The next read of the queue then ends the use of the term.
 func (t *term) isOver() bool {
 	return t.ctx.Err() != nil || !t.lease.isAlive() || t.revisions.isOlder()
 }
@@ -124,7 +124,8 @@ func (t *term) observe(least, revision int64) error {
 	return nil
 }
 
-// commit makes one change, as a whole or not at all.
+// commit makes one change, as a whole or not at all. First it stops an earlier transaction with an
+// unknown outcome, by fence.
 func (t *term) commit(ctx context.Context, c change) error {
 	if err := t.fence(ctx); err != nil {
 		return err
@@ -354,9 +355,10 @@ func (t *term) compareFailure(done *clientv3.TxnResponse, planned plan) error {
 }
 
 // noSpaceOutcome finds out if etcd made a transaction although it answered that it has no space.
-// The outcome was decided before that answer. So a key that the transaction puts shows it: if its
-// revision is not newer than all revisions seen before, the transaction was not made. Otherwise, or
-// if the transaction also deletes keys, the outcome counts as unknown.
+// The outcome was decided before that answer, so the keys that the transaction puts show it. If
+// none of them has a revision above the greatest one seen before, the transaction was not made, and
+// the result is a refusal. Otherwise, or if the transaction also deletes keys, or if a key cannot
+// be read, the outcome counts as unknown.
 func (t *term) noSpaceOutcome(ctx context.Context, planned plan) error {
 	before := t.seen
 	for _, op := range planned.success {

@@ -191,7 +191,8 @@ func nextLimit(rows, bytes int64) int64 {
 	return limit
 }
 
-// row checks a row of etcd, and encodes it as a field of a page.
+// row checks a row of etcd, and encodes it as a field of a page. If the row is refused, the error
+// names its key.
 func (w *walk) row(found *mvccpb.KeyValue) ([]byte, error) {
 	key := string(found.Key)
 	_, field, err := w.term.keys.pageRow(key, found.Value)

@@ -226,9 +226,9 @@ func (b *backend) send() {
 
 // load moves waiting calls to the calls on their way, and reports whether it moved any. It stops at
 // a call that may not be sent now, and after a call whose message is too long to be copied. A call
-// whose caller no longer waits is dropped. A call whose deadline is likely to pass before its reply
-// goes behind the other waiting calls, once. Otherwise, with more callers than csid can serve, most
-// calls would be sent and then given up before their replies.
+// whose context has ended is dropped. A call whose deadline is likely to pass before its reply
+// moves to the end of the waiting calls, once. Without this rule most calls of too many callers
+// would be given up after they were sent.
 func (b *backend) load(conn *connection) (any bool) {
 	for b.waiting.Len() > 0 && conn.message == nil {
 		c := b.waiting.Front().Value.(*call)
@@ -300,7 +300,8 @@ func (b *backend) putBack(c *call) {
 	}
 }
 
-// connect makes a connection if a call still waits for one.
+// connect makes a connection if a call still waits for one, and sends the waiting calls. If it
+// cannot make the connection, all waiting calls end with the reason.
 func (b *backend) connect() {
 	b.mutex.Lock()
 	defer b.mutex.Unlock()
@@ -322,7 +323,7 @@ func (b *backend) connect() {
 	b.send()
 }
 
-// dropEnded ends the waiting calls whose callers no longer wait.
+// dropEnded ends each waiting call whose context has ended, with the reason of this end.
 func (b *backend) dropEnded() {
 	for place := b.waiting.Front(); place != nil; {
 		c := place.Value.(*call)
@@ -406,8 +407,8 @@ func (b *backend) served(conn *connection) {
 
 // lose forgets a closed connection, after reading a reply failed with err. Calls that csid cannot
 // have carried out are sent again over the next connection, each once, before the calls that wait.
-// The other calls of the connection end with an error. If the connection gave no reply at all, all
-// of its calls and all waiting calls end with an error.
+// The other calls of the connection end with an error. If calls were sent over the connection and
+// none got a reply, all of them and all waiting calls end with an error.
 func (b *backend) lose(conn *connection, err error) {
 	b.mutex.Lock()
 	defer b.mutex.Unlock()

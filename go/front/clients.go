@@ -76,7 +76,7 @@ func (l *limitedListener) take() (*clientConn, error) {
 	return client, nil
 }
 
-// Close ends the listener, also while a connection waits for room.
+// Close closes the listener. A connection that waits for room is closed too.
 func (l *limitedListener) Close() error {
 	l.close.Do(func() { close(l.closed) })
 	return l.Listener.Close()

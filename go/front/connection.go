@@ -119,7 +119,8 @@ func (c *connection) hasRoom(one *call) bool {
 	return c.isOpen() && c.hasServed && len(c.sent) < maxSent && c.sentBytes+one.size <= maxSentBytes
 }
 
-// add puts a call after the calls on their way, and its frame after the unwritten bytes.
+// add puts a call after the calls on their way, and its frame after the unwritten bytes. A message
+// of more than maxCopiedBytes is not copied into the buffer.
 func (c *connection) add(one *call) {
 	if len(c.sent) == 0 {
 		c.begun = time.Now()
@@ -221,12 +222,12 @@ func (c *connection) write(file uintptr) bool {
 	return true
 }
 
-// isUndone reports whether csid cannot have carried out the call at this place among the calls on
-// their way, after reading a reply failed with err. It returns false if err does not mean that csid
-// closed the connection. csid writes each reply before it looks at the next call, so it can have
-// carried out only the first call. If the first call is the only one, csid has not carried it out
-// either if a part of it was not written, or if the socket was reset: a socket is reset if its peer
-// closes it before reading all bytes.
+// isUndone reports whether csid cannot have carried out a call on its way, after reading a reply
+// failed with err. place is the number of calls on their way before this call. It returns false if
+// err does not mean that csid closed the connection. csid writes each reply before it looks at the
+// next call, so it can have carried out only the first call. If the first call is the only one,
+// csid has not carried it out either if a part of it was not written, or if the socket was reset: a
+// socket is reset if its peer closes it before reading all bytes.
 func (c *connection) isUndone(place int, err error) bool {
 	if !frames.IsClosing(err) && err != io.ErrUnexpectedEOF {
 		return false
@@ -237,7 +238,8 @@ func (c *connection) isUndone(place int, err error) bool {
 	return len(c.sent) == 1 && (c.unwritten() > 0 || errors.Is(err, syscall.ECONNRESET))
 }
 
-// reason returns why calls have no reply, after reading a reply failed with err.
+// reason returns why calls have no reply, after reading a reply failed with err: the reason for
+// which the front ended the connection, or errUnanswered if csid closed it, or otherwise err.
 func (c *connection) reason(err error) error {
 	switch {
 	case c.why != nil:

@@ -110,7 +110,8 @@ func (c *control) close() {
 	}
 }
 
-// stop makes the control socket take no further calls. Running calls go on.
+// stop closes the control socket, and ends its connections without a running call. A running call
+// goes on, and its connection ends after it. If c is nil, stop does nothing.
 func (c *control) stop() {
 	if c == nil {
 		return
@@ -153,7 +154,8 @@ func (c *control) answerAll(conn *clientConn) {
 	}
 }
 
-// carriesOut carries a call out, and reports whether the reply was written.
+// carriesOut answers one call. It returns false if the call gets no reply, or if its reply cannot
+// be written.
 func (c *control) carriesOut(conn *clientConn, request frames.Request) bool {
 	conn.begin()
 	defer conn.end()

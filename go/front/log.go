@@ -184,7 +184,8 @@ func (l *logger) closedFor(who, option string, limit int) func() {
 	}
 }
 
-// via returns the beginning of a text line about a call over this socket. It is empty for gRPC.
+// via returns the beginning of a text line about a call: the name of the socket and a space. It is
+// empty for a call over gRPC.
 func via(socket string) string {
 	if socket == "" {
 		return ""

@@ -28,7 +28,8 @@ func newLineLimit(report func(counts map[string]uint64)) *lineLimit {
 	return &lineLimit{report: report, counts: map[string]uint64{}}
 }
 
-// allows reports whether a line of this kind passes. A nil limit lets any line pass.
+// allows reports whether a line passes: linesASecond lines pass in a second. Each further line is
+// counted under its kind. A nil limit lets any line pass.
 func (l *lineLimit) allows(kind string, now time.Time) bool {
 	if l == nil {
 		return true

@@ -20,7 +20,7 @@ type pace struct {
 // may begin.
 func (p *pace) left() time.Duration { return time.Until(p.last.Add(p.pause)) }
 
-// begins records that a connection begins now.
+// begins records that a connection begins now: the pause before the next one counts from here.
 func (p *pace) begins() { p.last = time.Now() }
 
 // served records that a reply came over the last connection. The pause before the next connection
@@ -30,7 +30,7 @@ func (p *pace) served() {
 }
 
 // failed records that the last connection, or the attempt to make it, gave no reply. The pause
-// doubles.
+// doubles, and is then at least leastPause and at most greatestPause.
 func (p *pace) failed() {
 	p.pause *= 2
 	if p.pause < leastPause {

@@ -140,7 +140,7 @@ func (c *caller) all(t *testing.T, calls int) map[uint32]result {
 	return all
 }
 
-// served waits until this many calls have their own replies.
+// served waits for the outcomes of this many calls, and checks that each is the call's own reply.
 func (c *caller) served(t *testing.T, calls int) {
 	t.Helper()
 	for number, got := range c.all(t, calls) {
@@ -160,7 +160,8 @@ type onTheirWay struct {
 	connections *int32
 }
 
-// sends returns a backend with count calls on their way. contexts has the contexts of some of them.
+// sends returns a backend with count calls on their way. contexts maps the numbers of some of these
+// calls to their contexts.
 func sends(t *testing.T, count int, contexts map[uint32]context.Context) *onTheirWay {
 	t.Helper()
 	return sendsBefore(t, count, contexts, serves)

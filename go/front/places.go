@@ -13,10 +13,10 @@ import (
 // cannot count these messages: the length of a message is known only when all of it has come.
 const maxReceived = 16
 
-// The times after which a message is late while other calls wait for a place. Each message is late
-// after placeTime. While a connection waits that has no place at all, a message is late after
-// shareTime. If no message came for stillTime, all messages that are being received are late, since
-// their clients hang.
+// The times after which a message is late that the front is receiving, while a call waits for a
+// place. Each message is late after placeTime. If the next place will go to a connection without
+// any place, a message is late after shareTime. If no message came for stillTime, all messages that
+// are being received are late, since their clients hang.
 const (
 	placeTime = 5 * time.Second
 	shareTime = time.Second

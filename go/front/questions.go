@@ -88,7 +88,8 @@ func (h *handler) isReady(ctx context.Context) error {
 	return h.isNodeReady(ctx)
 }
 
-// isCsidReady asks csid by Probe. It returns why csid is not ready, or nil.
+// isCsidReady asks csid by Probe. It returns why csid is not ready, or nil. A reply OK without the
+// field `ready` also means that csid is ready.
 func (h *handler) isCsidReady(ctx context.Context) error {
 	wrapped, is, err := h.question(ctx, probe, nil, protowire.BytesType)
 	if err != nil || !is {

@@ -24,10 +24,10 @@ const (
 	mostStandby  = time.Hour
 )
 
-// standBy makes the socket when csid is ready, and serves until csid has given no reply for the
-// time of --standby. It returns the exit status. An orchestrator's sidecars wait for a missing
-// socket, but end if their first Probe is answered UNAVAILABLE. With a node plugin it calls
-// serveWhileItWaits instead.
+// standBy makes the socket when csid is ready. It serves until csid has given no reply for the time
+// of --standby, or until the front fails or gets a signal. It returns the exit status. An
+// orchestrator's sidecars wait for a missing socket, but end if their first Probe is answered
+// UNAVAILABLE. With a node plugin it calls serveWhileItWaits instead.
 func (f *front) standBy() int {
 	if err := startMonitor(f.handler, f.asked, f.failed); err != nil {
 		return f.fails(err, noSocket)
@@ -155,17 +155,17 @@ func (h *handler) watch(limit time.Duration) error {
 	}
 }
 
-// soonReady runs a check by Probe with a time limit.
+// soonReady runs a check by Probe whose context ends after this length of time, if not before.
 func soonReady(ctx context.Context, check func(context.Context) error, length time.Duration) error {
 	ctx, cancel := context.WithTimeout(ctx, length)
 	defer cancel()
 	return check(ctx)
 }
 
-// livez answers 503 if csid hangs: a Probe timed out or the front ended its connection for a late
-// reply, and no reply came for questionTime. Otherwise it answers "ok". A csid that closes each
-// connection, since another csid has the lock, does not hang. A csid that answers other calls
-// before the Probe does not hang either.
+// livez answers 503 if csid hangs: no reply came for questionTime, and the Probe of this request
+// got no turn in time, timed out, or was lost when the front closed its connection for a late
+// reply. Otherwise it answers "ok". A csid that closes each connection, since another csid has the
+// lock, does not hang. A csid that answers other calls before the Probe does not hang either.
 func (h *handler) livez(answer http.ResponseWriter, request *http.Request) {
 	err := h.checkInTurn(request.Context(), h.isCsidReady)
 	isUnanswered := status.Code(err) == codes.DeadlineExceeded || reason(err) == h.backend.lateReply().Error()
@@ -176,7 +176,7 @@ func (h *handler) livez(answer http.ResponseWriter, request *http.Request) {
 	fmt.Fprintln(answer, "ok")
 }
 
-// reason returns the text of an error of Probe, without the prefix "csid: ".
+// reason returns the text of an error of Probe, without the prefix "csid: ". It is empty for nil.
 func reason(err error) string { return strings.TrimPrefix(status.Convert(err).Message(), "csid: ") }
 
 func least(one, other time.Duration) time.Duration {

@@ -75,7 +75,8 @@ func call(args []string, out io.Writer) error {
 	return err
 }
 
-// decodeJSON decodes the only JSON value of a text. An empty text leaves the request empty.
+// decodeJSON decodes the only JSON value of a text. An unknown field is an error. An empty text
+// leaves the request empty.
 func decodeJSON(text string, request interface{}) error {
 	if text == "" {
 		return nil

@@ -47,8 +47,8 @@ func dial(socket string) (controller, error) {
 	return controller{conn}, err
 }
 
-// size returns the bytes of a volume, or errNoVolume. It asks for a page of ListVolumes with one
-// entry, after the volume's number minus 1. If the volume exists, this entry is the volume
+// size returns the size of a volume in bytes, or errNoVolume. It asks for a page of ListVolumes
+// with one entry, after the volume's number minus 1. If the volume exists, this entry is the volume
 // (docs/MACHINE.md, "A walk over pages").
 func (c controller) size(ctx context.Context, id string) (int64, error) {
 	parts := volumeID.FindStringSubmatch(id)

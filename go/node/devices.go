@@ -185,8 +185,8 @@ func (devices) unpublish(data, target string) error {
 	return nil
 }
 
-// usage returns the usage of a mounted file system, or only the size of a block device. It returns
-// nil if the volume is not at the path.
+// usage returns the total, used and available bytes of a mounted file system, or only the size of a
+// block device. It returns nil if the volume is not at the path.
 func (devices) usage(data, path string) (*usage, error) {
 	at, err := findPresence(data, path)
 	if err != nil || at == nowhere {

@@ -53,8 +53,8 @@ func (folders) unpublish(data, target string) error {
 	return unlink(data, target)
 }
 
-// usage returns the usage of the file system that has the folder, since a volume here has no size
-// limit. It returns nil if the volume is not at the path.
+// usage returns the total, used and available bytes of the file system that has the folder, since a
+// volume here has no size limit. It returns nil if the volume is not at the path.
 func (folders) usage(data, path string) (*usage, error) {
 	for _, candidate := range []string{path, stagingLink(path)} {
 		if ok, err := isLinkTo(candidate, data); err != nil {
@@ -78,7 +78,8 @@ func link(data, path string) error {
 	return err
 }
 
-// unlink removes the link to a volume's data, and nothing else.
+// unlink removes the file at `path` if it is a symbolic link to a volume's data. Any other file
+// there stays, and is no error.
 func unlink(data, path string) error {
 	ok, err := isLinkTo(path, data)
 	if !ok || err != nil {

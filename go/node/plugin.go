@@ -51,7 +51,8 @@ type storage interface {
 	usage(data, path string) (*usage, error)
 }
 
-// plugin serves the Identity and the Node service.
+// plugin serves the Identity and the Node service. Its storage keeps each volume as a folder, or as
+// a file with a loop device.
 type plugin struct {
 	name       string
 	info       nodeInfo
@@ -192,12 +193,12 @@ func (p *plugin) dataOf(request *stageRequest) (string, error) {
 	return filepath.Join(folder, p.file(request.VolumeID)), nil
 }
 
-// find returns the path of a volume's data in any of the pools, or "" if there are none.
+// find returns the path of a volume's data in any of the pools, or "" if no pool has the data.
 func (p *plugin) find(id string) (string, error) {
 	return p.pools.find(p.file(id))
 }
 
-// file returns the file name of a volume's data.
+// file returns the file name of a volume's data: the id, and then the suffix of the storage.
 func (p *plugin) file(id string) string {
 	return id + p.storage.suffix()
 }

@@ -40,7 +40,8 @@ func (p pools) String() string {
 	return strings.Join(names, " ")
 }
 
-// find returns the path of a volume's data in any of the pools, or "" if there are none.
+// find returns the path of a file or folder with this name in any of the pools, or "" if no pool
+// has one.
 func (p pools) find(file string) (string, error) {
 	for _, folder := range p {
 		data := filepath.Join(folder, file)

@@ -56,7 +56,7 @@ func TestSweep(t *testing.T) {
 	}
 }
 
-// names returns the sorted names in some folders.
+// names returns the sorted names of the files in these folders, or nil if the folders are empty.
 func names(t *testing.T, folders ...string) (all []string) {
 	t.Helper()
 	for _, each := range folders {

@@ -42,7 +42,8 @@ func newDriver(t *testing.T, programs ...program) *driver {
 	return d
 }
 
-// run makes changes until the context ends.
+// run makes changes until the context ends, in sessions over its sockets in turn. The first error
+// of a session fails the test and ends run.
 func (d *driver) run(ctx context.Context) {
 	for i := 0; ctx.Err() == nil; i++ {
 		if err := d.session(ctx, d.sockets[i%len(d.sockets)]); err != nil {
@@ -141,7 +142,7 @@ func (d *driver) compare(read rows) error {
 	return nil
 }
 
-// difference returns the rows that one has and other does not have.
+// difference returns the rows of `one` that `other` does not have, or has with another value.
 func difference(one, other rows) rows {
 	found := rows{}
 	for key, value := range one {

@@ -76,7 +76,8 @@ func TestLateChange(t *testing.T) {
 	}
 }
 
-// lateChange lets a change reach etcd only after the next reading of all rows.
+// lateChange lets a change reach etcd only after the next reading of all rows, and checks that a
+// later reading finds the same rows.
 func lateChange(t *testing.T, cluster *clusters.Cluster, p program, l *storeConn, slow *proxy) {
 	t.Helper()
 	// Calls use both connections in turn. A call over the slow one waits there, and the proxy drops
@@ -118,7 +119,7 @@ func (p program) readRows(t *testing.T) (read rows) {
 	return read
 }
 
-// transactions returns the number of transactions that a member has answered.
+// transactions returns the number of transactions that the first member has answered.
 func transactions(t *testing.T, cluster *clusters.Cluster) (count int) {
 	t.Helper()
 	answer, err := http.Get("http://" + cluster.Members[0].Address + "/metrics")
@@ -164,7 +165,8 @@ type filling struct {
 	made int
 }
 
-// add adds a volume, and reports whether it was refused for want of space.
+// add adds a volume, and reports whether it was refused for want of space. If there is no reply,
+// etcd must have made the change, and `made` counts it.
 func (f *filling) add(t *testing.T) (isFull bool) {
 	t.Helper()
 	params := "\x22\x84\x08" + strings.Repeat("x", 1028)

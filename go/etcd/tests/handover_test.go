@@ -15,7 +15,8 @@ import (
 	"./clusters"
 )
 
-// takeLock takes the lock from its holder by hand: it deletes the key or revokes the lease.
+// takeLock takes the lock from its holder by hand: it revokes the holder's lease if isByLease is
+// true, and otherwise deletes the holder's key.
 func takeLock(t *testing.T, client *clientv3.Client, isByLease bool) {
 	t.Helper()
 	ctx, cancel := context.WithTimeout(context.Background(), processes.Patience)
@@ -184,7 +185,8 @@ type listing struct {
 	body string
 }
 
-// listUntil requests all volumes again and again until over is closed.
+// listUntil requests all volumes again and again until over is closed. It returns the replies with
+// OK.
 func (s *stack) listUntil(over <-chan struct{}) (all []listing) {
 	for {
 		l, err := dial(s.path("csid.sock"))

@@ -41,7 +41,8 @@ func newAuthority(t *testing.T) *authority {
 
 func (a *authority) path(name string) string { return filepath.Join(a.folder, name) }
 
-// sign makes a certificate for loopback, and its key, as the files NAME.pem and NAME.key.
+// sign makes a certificate for loopback, and its key, as the files NAME.pem and NAME.key. The first
+// certificate of an authority is its own, signed with its own key.
 func (a *authority) sign(t *testing.T, name string, request *x509.Certificate) (*x509.Certificate, *ecdsa.PrivateKey) {
 	t.Helper()
 	a.count++
@@ -245,7 +246,8 @@ func (r *rotation) restart(t *testing.T) {
 	processes.Eventually(t, "etcd after its start", func() bool { return r.cluster.Try("endpoint", "health") == nil })
 }
 
-// addUser adds a user who may read and write the rows of the plugin, and enables authentication.
+// addUser adds the user csid, who may read and write the rows of the plugin, and enables
+// authentication. The first password of csid is "first".
 func addUser(t *testing.T, cluster *clusters.Cluster) {
 	t.Helper()
 	for _, args := range [][]string{
@@ -260,7 +262,8 @@ func addUser(t *testing.T, cluster *clusters.Cluster) {
 	}
 }
 
-// userCluster is an etcd with a user, and a file with that user's password.
+// userCluster is an etcd with the user csid. password is the path of the file for this user's
+// password, which write makes.
 type userCluster struct {
 	*clusters.Cluster
 	password string

@@ -235,7 +235,8 @@ type caller struct {
 
 var volumeID = regexp.MustCompile(`vol-[0-9]+`)
 
-// step makes one call that changes something, and notes the reply.
+// step creates, modifies, publishes, unpublishes or deletes a volume, chosen at random, and notes
+// the replies. After a create with OK it repeats the create, which must return the same id.
 func (c *caller) step() {
 	if len(c.volumes) == 0 || (len(c.volumes) < 7 && c.random.Intn(3) == 0) {
 		c.create()
@@ -507,7 +508,8 @@ func (f *fleet) kill(client *clientv3.Client) {
 	}
 }
 
-// killOnce kills a victim while the fleet serves, and returns the time until it serves again.
+// killOnce kills a victim while the fleet serves, and returns the time until it serves again. A
+// time above the limit for this victim fails the test.
 func (f *fleet) killOnce(client *clientv3.Client, random *rand.Rand, who victim) time.Duration {
 	begin := time.Now()
 	var s *stack

@@ -414,7 +414,8 @@ func rounds(words []string) (int, error) {
 var errWords = errors.New("usage: bench calls CSID FRONT [ROUNDS]; bench driver CSID FRONT DRIVER [ROUNDS]; bench " +
 	"stop|quiet CSID FRONT FILE; bench hasty CSID FRONT")
 
-// do runs the measurement that the arguments name.
+// do runs the measurement that the first argument names. If the arguments fit none, it returns
+// errWords.
 func do(words []string) error {
 	if len(words) < 3 {
 		return errWords

@@ -131,7 +131,8 @@ func (f *fake) serve(conn net.Conn) {
 	f.rest = rest
 }
 
-// answer takes a step, and reports whether the connection goes on.
+// answer takes the next step for a call. If no step is left, it writes a reply with OK. It reports
+// whether the connection goes on.
 func (f *fake) answer(conn net.Conn, call string) bool {
 	f.mutex.Lock()
 	f.calls = append(f.calls, call)

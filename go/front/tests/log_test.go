@@ -19,7 +19,8 @@ import (
 	"./processes"
 )
 
-// objects returns the lines of a log in JSON, without their times.
+// objects returns the lines of a log in JSON, without their times. It checks that each time has the
+// form of RFC 3339.
 func objects(t *testing.T, p *processes.Process) (all []map[string]interface{}) {
 	t.Helper()
 	for in := json.NewDecoder(strings.NewReader(p.Log.String())); ; {

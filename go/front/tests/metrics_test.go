@@ -289,7 +289,8 @@ func TestScrapesAtOnce(t *testing.T) {
 	}
 }
 
-// dialMonitor makes a connection to a monitor.
+// dialMonitor connects to the monitor at this URL. Reads and writes fail after processes.Patience,
+// and the connection is closed at the end of the test.
 func dialMonitor(t *testing.T, monitor string) net.Conn {
 	t.Helper()
 	conn, err := net.Dial("tcp", strings.TrimPrefix(monitor, "http://"))

@@ -183,7 +183,8 @@ func (c *Cluster) Ctl(t *testing.T, args ...string) string {
 	return run(t, append(append([]string{"--endpoints", c.Endpoints()}, c.Args...), args...))
 }
 
-// Try runs etcdctl and returns its error.
+// Try runs etcdctl. It returns nil if the exit status is 0, and otherwise an error with what
+// etcdctl wrote to standard error.
 func (c *Cluster) Try(args ...string) error {
 	_, err := ctl(append(append([]string{"--endpoints", c.Endpoints()}, c.Args...), args...), "")
 	return err

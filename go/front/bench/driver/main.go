@@ -166,7 +166,8 @@ func volume(number, bytes int64) *csi.Volume {
 		VolumeContext: map[string]string{"pool": pool}}
 }
 
-// numberOf returns the number in a volume's id, or 0 if the text is not an id.
+// numberOf returns the number in a volume's id, with or without its prefix vol-. It returns 0 if
+// the rest is not a decimal number.
 func numberOf(id string) int64 {
 	number, err := strconv.ParseInt(strings.TrimPrefix(id, "vol-"), 10, 64)
 	if err != nil {

@@ -33,7 +33,8 @@ func pathOf(variable, otherwise string) string {
 	return filepath.Join(filepath.Dir(here), "../../../..", otherwise)
 }
 
-// program returns the path of a program, and fails the test if the program does not exist.
+// program returns the path of a program: the value of this environment variable, or without it the
+// path `otherwise` in the repository. It fails the test if there is no such file.
 func program(t *testing.T, variable, otherwise string) string {
 	t.Helper()
 	path := pathOf(variable, otherwise)
@@ -70,7 +71,8 @@ func (l *ErrorLog) String() string {
 	return l.text.String()
 }
 
-// Process is a running program. It is killed at the end of the test.
+// Process is a running program. It is killed at the end of the test. Ended is closed once the
+// program has ended.
 type Process struct {
 	*exec.Cmd
 	Socket string
@@ -103,7 +105,8 @@ func (p *Process) Kill() {
 	<-p.Ended
 }
 
-// Status waits until a process has ended by itself, and returns its exit status.
+// Status waits until a process has ended, and returns its exit status. After Patience it fails the
+// test.
 func (p *Process) Status(t *testing.T) int {
 	t.Helper()
 	select {

@@ -5,7 +5,7 @@ import (
 	"testing"
 )
 
-// attacher plays csi-attacher.
+// attacher plays csi-attacher: it publishes, unpublishes and lists volumes.
 type attacher struct{ *sidecar }
 
 func startAttacher(t *testing.T, socket string) *attacher {

@@ -43,8 +43,8 @@ func (l *ledger) strike(id string) {
 	delete(l.nodes, id)
 }
 
-// cluster plays csi-provisioner and csi-attacher in one cluster, and notes in its ledger which
-// volumes exist according to their replies.
+// cluster plays csi-provisioner and csi-attacher of one cluster. The ledger has the node of each
+// volume by the replies, or "" for a volume at no node.
 type cluster struct {
 	*provisioner
 	*attacher
@@ -94,8 +94,8 @@ func (k *cluster) lead(c claim, stage int) error {
 	return nil
 }
 
-// workers runs several workers of a sidecar, and waits until they end. Each takes its share of the
-// claims.
+// workers runs `count` workers of a sidecar at once, and waits until they end. Each worker calls
+// take for its share of the claims, in turn.
 func workers(count int, claims []claim, take func(i int, c claim)) {
 	processes.Together(count, func(worker int) {
 		for i := worker; i < len(claims); i += count {
@@ -104,9 +104,9 @@ func workers(count int, claims []claim, take func(i int, c claim)) {
 	})
 }
 
-// killUntil kills csid and starts it again until over is closed, and returns the number of kills.
-// After each start of csid, a sidecar must come up. The next kill follows 100 to 300 ms later,
-// times slowness.
+// killUntil kills csid and starts it again, until over is closed. Before each kill it waits for 100
+// to 300 ms, times slowness. After each kill it waits until a sidecar has come up. It returns the
+// number of kills.
 func killUntil(t *testing.T, csid *processes.Server, front string, random *rand.Rand,
 	over <-chan struct{}) (kills int) {
 	t.Helper()

@@ -137,7 +137,7 @@ func (p *provisioner) persistentContext(v *volume) map[string]string {
 	return all
 }
 
-// capacity asks for the free bytes of a zone, with GetCapacity.
+// capacity asks once for the free bytes of a zone, with GetCapacity. A failed call is not repeated.
 func (p *provisioner) capacity(zone string) (*getCapacityResponse, error) {
 	got := &getCapacityResponse{}
 	request := &getCapacityRequest{Parameters: map[string]string{"tier": "gold"},

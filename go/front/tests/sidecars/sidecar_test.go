@@ -88,7 +88,8 @@ type sidecar struct {
 	repeats int32
 }
 
-// startSidecar starts a sidecar as a kubelet does: if the start fails, it starts the sidecar again.
+// startSidecar starts a sidecar as a kubelet does: if the start fails, it starts the sidecar again
+// after restartPause. If no start succeeds within patience, the test fails.
 func startSidecar(t *testing.T, socket string) *sidecar {
 	t.Helper()
 	for end := time.Now().Add(patience); ; time.Sleep(restartPause) {
@@ -102,8 +103,8 @@ func startSidecar(t *testing.T, socket string) *sidecar {
 	}
 }
 
-// comeUp runs the start of a sidecar. If the start fails, it returns the error, with which the
-// sidecar ends.
+// comeUp runs the start of a sidecar: its first Probe, and its questions for the driver's name and
+// capabilities. It returns the error after which the sidecar would end.
 func comeUp(t *testing.T, socket string) (*sidecar, error) {
 	t.Helper()
 	conn, err := grpc.Dial("unix:"+socket, grpc.WithInsecure(), grpc.WithBlock(), grpc.WithTimeout(patience))
@@ -191,7 +192,8 @@ func isFinal(err error) bool {
 	return true
 }
 
-// repeat makes a call until it succeeds or has a final error, with pauses that grow.
+// repeat makes a call until it succeeds or has a final error. The pauses between two attempts
+// double, up to longestPause. After patience it returns an error.
 func (s *sidecar) repeat(path string, request, response interface{}) error {
 	end, pause := time.Now().Add(patience), firstPause
 	for {

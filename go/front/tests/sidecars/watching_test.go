@@ -18,8 +18,9 @@ func (p *provisioner) wantsCapacity(t *testing.T, zone string, want int64) {
 	}
 }
 
-// poll asks for the free bytes of each zone until over is closed, and returns how often it asked.
-// It checks that they are never negative and never more than the bytes of a pool.
+// poll asks for the capacity of all zones again and again until over is closed, and returns the
+// number of rounds. It checks that the free bytes are neither negative nor more than the bytes of a
+// pool, and that the greatest size of a volume is neither negative nor more than the free bytes.
 func (p *provisioner) poll(t *testing.T, pool int64, over <-chan struct{}) (polls int) {
 	t.Helper()
 	for ; ; polls++ {
@@ -84,7 +85,8 @@ func TestCapacity(t *testing.T) {
 	}
 }
 
-// churn creates the volume of a claim, and attaches and detaches it in each round.
+// churn creates the volume of a claim, and attaches and detaches it in each round. It ends at the
+// first error, which it returns.
 func (k *cluster) churn(c claim, rounds int) error {
 	v, err := k.provision(c)
 	for ; err == nil && rounds > 0; rounds-- {

@@ -69,7 +69,8 @@ func isStatus(code codes.Code) bool {
 	return false
 }
 
-// Replies reads a stream of replies.
+// Replies reads replies from a stream. It keeps the part of a reply that has come, so Next can
+// continue after a deadline.
 type Replies struct {
 	in *bufio.Reader
 	// The reply whose body is being read, and the number of bytes of the body that were read. body
@@ -80,7 +81,8 @@ type Replies struct {
 	read int
 }
 
-// NewReplies returns a reader of the replies in a stream.
+// NewReplies returns a reader of the replies in a stream. It may read ahead; Buffered counts the
+// bytes that it has read ahead.
 func NewReplies(in io.Reader) *Replies {
 	// This buffer can be small: bufio reads the rest of a longer body from the stream directly into
 	// the body.

@@ -23,14 +23,15 @@ type Fault struct {
 // Error returns the text of the reply to a fault, such as "bad flag at byte 12".
 func (f Fault) Error() string { return fmt.Sprintf("%s at byte %d", f.Reason, f.Place) }
 
-// Requests reads a stream of calls.
+// Requests reads calls from a stream, and counts the bytes of the stream for the place of a Fault.
 type Requests struct {
 	in *bufio.Reader
 	// The number of bytes of the stream that take and path have read.
 	read int64
 }
 
-// NewRequests returns a reader of the calls in a stream.
+// NewRequests returns a reader of the calls in a stream. It may read more bytes of the stream than
+// the calls that Next has returned.
 func NewRequests(in io.Reader) *Requests { return &Requests{in: bufio.NewReader(in)} }
 
 // Next reads the next call. It returns io.EOF if the stream ends before the first byte of a call,
@@ -95,7 +96,7 @@ func (r *Requests) message() ([]byte, error) {
 	return r.take(int(size))
 }
 
-// take reads size bytes. If the stream ends before, it counts the bytes that came.
+// take reads size bytes. Also if the stream ends before, it adds the bytes that came to `read`.
 func (r *Requests) take(size int) ([]byte, error) {
 	taken := make([]byte, size)
 	length, err := io.ReadFull(r.in, taken)
