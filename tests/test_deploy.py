@@ -623,7 +623,9 @@ class DeployTest(RowTest):
         self.check_verified(UNITS + [ETCD_UNIT], DIFFERENCES)
 
     def check_verified(self, names, differences):
-        """Checks units in a folder, some with a drop-in."""
+        """Checks that systemd accepts these units of deploy/, and that the exposure of each is at most
+        EXPOSURE. `differences` has the file of a unit's drop-in by the name of the unit. /bin/true replaces
+        the programs of the units."""
         with tempfile.TemporaryDirectory() as folder:
             for name, place in [(it, it) for it in names] + [(file, unit + ".d/etcd.conf")
                                                              for unit, file in differences.items()]:

@@ -229,7 +229,9 @@ class RecipesTest(RecipeTest):
                        (has(1, 0, 2, format=1), "", 0))
 
     def test_pages(self):
-        """A file of an earlier release is adopted, and keeps the size of its pages."""
+        """csid adopts a file of an earlier release, which keeps its pages of 4,096 bytes. The recipe for
+        smaller pages then gives the file pages of 1,024 bytes, as a new file has, with the same rows. Its
+        copy keeps the pages of 4,096 bytes."""
         with Place(self.csictl, self.csid) as place:
             size = "PRAGMA page_size"
             self.check("the pages of a file that is made", place.in_folder('sqlite3 volumes.db "%s"' % size),
