@@ -440,7 +440,7 @@ class StarvingStore(KeptChangeStore):
 
 
 def status_of(csid, key):
-    """Returns the first word of a line of /proc/PID/status."""
+    """Returns the first value in the line `key` of /proc/PID/status, as a text."""
     with open("/proc/%d/status" % csid) as lines:
         return next(line.split()[1] for line in lines if line.startswith(key + ":"))
 

@@ -164,7 +164,8 @@ class AccessTest(ServeTest):
         self.assertEqual(server.end(), (line, 7, False))
 
     def test_group_is_sought_by_name_and_then_by_number(self):
-        """/etc/group is replaced for csid."""
+        """csid sees another /etc/group, in which some groups have numbers as names. A word that names no
+        group there is refused, unless it is a number."""
         groups, program = os.path.join(self.folder, "groups"), os.path.join(self.folder, "csid-with-groups")
         write(groups, GROUPS)
         bind = 'exec unshare --mount sh -c \'mount --bind "$0" /etc/group && exec "$@"\' %s %s "$@"\n'

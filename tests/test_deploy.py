@@ -418,7 +418,8 @@ class DeployTest(RowTest):
         self.check("where the job may run", len(named), 1)
 
     def test_sockets(self):
-        """Each front gets the socket of its csid, and each sidecar the socket of its front."""
+        """Each front gets the socket of its csid, and each sidecar the socket of its front. The sockets are
+        in folders that the units, the Nomad job and the manifests have."""
         for where, self.csid, self.front in commands():
             self.check("the socket of csid in " + where, value(self.front, "--csid"),
                        value(self.csid, "--socket"))

@@ -86,7 +86,8 @@ class RecipesTest(RecipeTest):
 
     def test_restore_of_attachments(self):
         """After the copy, vol-1 moved from n1 to n2, vol-2 was detached and deleted, vol-3 was attached at
-        n1, and vol-40 was created and attached read-only at n2. vol-4 did not change."""
+        n1, and vol-40 was created and attached read-only at n2. vol-4 did not change. The recipes show these
+        differences, and repair all but one: vol-2 is left, and can be deleted."""
         detached, attached = "vol-1 rw n1\nvol-2 rw n1\n", "vol-1 rw n2\nvol-3 rw n1\nvol-40 ro n2\n"
         with Place(self.csictl, self.csid) as place:
             copies = self.begin_restore(place)
@@ -213,7 +214,9 @@ class RecipesTest(RecipeTest):
             self.check("the next volume there", new.call(*create("b")), "0 OK\nvolume vol-2 1048576\n")
 
     def test_upgrade(self):
-        """The programs are the same before and after. The file has format 1 before."""
+        """An upgrade copies the programs and the file, and csid adopts the file, which has format 1. The way
+        back and a restore bring back the programs and the file of format 1. In this test the new programs are
+        the same as the old ones."""
         with Place(self.csictl, self.csid) as place:
             place.must("systemctl stop csid; rm /var/lib/csid/*")
             shutil.copy(os.path.join(TOP, "tests", "stored", "format-1-1.db"), place.folder + "volumes.db")
@@ -432,8 +435,8 @@ class KubernetesChangeTest(RecipeTest):
         self.before = self.place.control.runs("csid")
 
     def changes(self, gibibytes):
-        """Gives the pool of 10 TiB, with 2 GiB in use, another size, and runs the commands. Returns the
-        output, the errors and the status."""
+        """Sets the size of the pool of 10 TiB in the manifest to this many GiB, and runs the commands that
+        change it. Volumes have 2 GiB of the pool. Returns the output, the errors and the status."""
         text = pathlib.Path(self.manifest).read_text()
         self.assertEqual(text.count("bytes = %d\n" % (10 << 40)), 1)
         with open(self.manifest, "w") as file:

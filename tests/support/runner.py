@@ -32,8 +32,8 @@ class Report:
 
 @dataclasses.dataclass
 class Outcome:
-    """The result of the tests of a class: their number and seconds, a text for each, and the lists of a
-    result."""
+    """The result of the tests of a class: the number of tests, the seconds of all, the text that unittest
+    wrote, and the failures, errors and skipped tests, each as a Report and a text."""
 
     count: int
     seconds: float
