@@ -57,7 +57,7 @@ def explained(name, line):
 
 
 class AdoptionTest(CsidTest):
-    """Rows written by hand."""
+    """csid adopts rows that were written by SQL, or refuses them with a line about the fault."""
 
     def check_refused(self, name, line, config=None):
         """`csid --check-tables` explains a refused row, then prints the line of the refusal."""
@@ -80,7 +80,8 @@ class AdoptionTest(CsidTest):
             self.assertEqual(self.tables.run(frame(PROBE)), self.tables.says(line))
 
     def test_first_rule_that_is_broken_is_reported(self):
-        """The rows break all rules. The rules are then fixed, one after another."""
+        """The rows break all rules. They are then fixed for one rule after another, and each time csid
+        reports the first rule that is still broken."""
         rows = "SELECT * FROM volumes", "SELECT rowid, * FROM attachments"
         self.tables.new().script(GOOD + next_is(50) + "".join(spoil for spoil, _, _ in TURNS))
         before = list(map(self.tables.ask, rows))

@@ -294,7 +294,8 @@ class ChangeTest(PlayedTest):
         server.end()
 
     def test_change_that_fails_is_refused_with_all_later_ones(self):
-        """The next connection reads the rows again."""
+        """The failed change and the later calls are refused, except Probe. If the change store has ended its
+        connection, the later calls get no reply. The next connection reads the rows again."""
         stays = DOWN + v.READY + DOWN
         for name, reply, rest, line in [
             ("a refusal", v.refusal(8, "etcd has no room"), stays, ""),

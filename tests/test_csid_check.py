@@ -121,7 +121,7 @@ class CheckTablesTest(CsidTest):
         self.assertEqual(self.check_kept(self.tables), self.SUMMARY)
 
     def test_tables_are_checked_while_they_are_served(self):
-        """A volume is only in the WAL. The server continues."""
+        """A check finds the volume that is only in the WAL, and changes nothing. The server continues."""
         self.fill()
         made = reply(VOLUME_1.replace(b"vol-1", b"vol-3"))
         streams = dict.fromkeys(("stdin", "stdout", "stderr"), subprocess.PIPE)

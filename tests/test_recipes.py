@@ -344,7 +344,8 @@ ROW = "vol-%d  %s     %s    1 MiB  block:SINGLE_NODE_WRITER  -           -      
 
 
 class ChangedConfigurationTest(RecipeTest):
-    """vol-1 and vol-2 are in p1 and attached at n1, vol-3 is in p2."""
+    """The recipes for a changed configuration, over three volumes: vol-1 and vol-2 are in p1 and attached at
+    n1, and vol-3 is in p2."""
 
     def setUp(self):
         super().setUp()
