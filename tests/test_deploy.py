@@ -483,7 +483,8 @@ class DeployTest(RowTest):
 
     @each(STATUSES)
     def test_statuses(self, name, program, done, refused):
-        """A refused program is not started again, and the unit has its own words for the status."""
+        """systemd does not start a program again that ended with a status in `refused`. After status 3 the
+        unit prints a line with this status, and after status 0 or a signal no line."""
         unit = Unit(name)
         self.check("the statuses of " + name,
                    (unit.all("SuccessExitStatus"), unit.all("RestartPreventExitStatus")), (done, refused))

@@ -60,7 +60,8 @@ class RecipesTest(RecipeTest):
             self.check("the front is back", place.control.runs("csid-front") is not None, True)
 
     def test_daily_copies(self):
-        """There are fifteen copies of earlier days. With a new copy the last 14 stay."""
+        """There are fifteen copies of earlier days. After a new copy there are fourteen: the new one, and the
+        thirteen newest of the earlier ones."""
         days = ["2026-01-%02d-000000.db" % day for day in range(1, 16)]
         with Place(self.csictl, self.csid) as place:
             place.call(*create("a"))
