@@ -1,7 +1,7 @@
 """Makes streams of calls for the benches, with the expected replies (docs/PROTOCOL.md, docs/MACHINE.md).
 
-The configuration has one pool of 2^62 bytes without segments, and the node n1. The volumes have 1 MiB each.
-In the order of their numbers they are named v1, v2 and so on, unless `creates` is given other names.
+The configuration has one pool of 2^62 bytes without segments, and the node n1. The volume with the number N
+has 1 MiB and the id vol-N. Its name is vN, unless a function gets another `name`.
 """
 import contextlib
 import sqlite3
@@ -125,15 +125,16 @@ def creates(count, standing=0, name=short_name):
 
 
 def pages(standing, count):
-    """Returns `count` ListVolumes calls with their replies: pages of 100, in walks over all volumes."""
+    """Returns `count` ListVolumes calls with their replies, while `standing` volumes exist. Each call asks
+    for the next page of 100. After the last page the first page comes again."""
     walk = [page(after, 100, standing) for after in range(0, standing, 100)]
     return [walk[number % len(walk)] for number in range(count)]
 
 
 def mix(standing, rounds, with_capacity=True):
-    """Yields the calls of the mix. A round is for one volume, which is deleted at its end: a create, a
-    publish, a page of ten with six entries, the free bytes (unless they are left out), an unpublish and a
-    delete."""
+    """Yields the calls of the mix, with their replies. A round is for one volume, which is deleted at its
+    end: a create, a publish, a page of at most ten, the free bytes (unless they are left out), an unpublish
+    and a delete. The page has the new volume and the five volumes before it."""
     for number in range(standing + 1, standing + rounds + 1):
         after = standing - 5
         body = b"".join(part(1, volume(other) + part(2, b"")) for other in range(after + 1, standing + 1))

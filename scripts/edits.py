@@ -145,7 +145,8 @@ class Edit:
         return bool(changed)
 
     def function_of(self, file, old):
-        """Returns the function that has a text in a file of the crate, or None."""
+        """Returns the function in which a text in a file of src/ begins. Returns None for any other file, and
+        if the file lacks the text."""
         text = read(f"crates/{self.crate}/{file}")
         before, is_there, _ = text.partition(old)
         if not is_there or not file.startswith("src/"):

@@ -167,7 +167,8 @@ class BuildsTest(RowTest):
                        (1, "", "%s: %s" % (script, no_kit), []))
 
     def test_run(self):
-        """The built program is run if no source is newer, otherwise the sources."""
+        """./run runs the built program if no source is newer. Otherwise it tries the sources by rt, and says
+        that they are not proved."""
         program = self.place.path("crates/csid/out/csid")
         self.place.write("crates/csid/out/csid", '#!/bin/sh\necho "csid $*"\n', 0o755)
         for path in ["crates.txt", "crates/low/src/lib.rt", "crates/csid/src/main.rt"]:

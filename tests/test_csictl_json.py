@@ -15,12 +15,14 @@ def entry_in_json(number):
 
 
 def numbered(names, form):
-    """Returns a text for each number of a list of names, with the number in hexadecimal and the name."""
+    """Returns the text `form` for each name. NN becomes the position of the name in the list, counted from 0,
+    in hexadecimal, and NAME becomes the name."""
     return [form.replace("NN", "%02x" % number).replace("NAME", name) for number, name in enumerate(names)]
 
 
 def asked_of(connections):
-    """Returns the calls of a walk over pages of one entry. A page without a reply is asked for again."""
+    """Returns the calls of a walk over pages of one entry, as a list for each connection. `connections` has
+    what the server does at each call. After CLOSED the same page is asked for again."""
     tokens, wanted = iter(["", "120131", "120132"]), []
     token = next(tokens)
     for deeds in connections:

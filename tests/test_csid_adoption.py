@@ -57,7 +57,7 @@ def explained(name, line):
 
 
 class AdoptionTest(CsidTest):
-    """Rows written by hand."""
+    """csid adopts rows that were written by SQL, or refuses them with a line about the fault."""
 
     def check_refused(self, name, line, config=None):
         """`csid --check-tables` explains a refused row, then prints the line of the refusal."""
@@ -80,7 +80,8 @@ class AdoptionTest(CsidTest):
             self.assertEqual(self.tables.run(frame(PROBE)), self.tables.says(line))
 
     def test_first_rule_that_is_broken_is_reported(self):
-        """The rows break all rules. The rules are then fixed, one after another."""
+        """The rows break all rules. They are then fixed for one rule after another, and each time csid
+        reports the first rule that is still broken."""
         rows = "SELECT * FROM volumes", "SELECT rowid, * FROM attachments"
         self.tables.new().script(GOOD + next_is(50) + "".join(spoil for spoil, _, _ in TURNS))
         before = list(map(self.tables.ask, rows))
@@ -101,7 +102,8 @@ class AdoptionTest(CsidTest):
         self.assertEqual(self.tables.run(frame(PROBE), self.config), self.tables.says(line))
 
     def fill(self, count):
-        """Makes tables with this many volumes and the next number 200000."""
+        """Makes tables with this many volumes and the next number 200000, and a configuration with room for
+        the volumes."""
         self.configure(sample((b"10485760", b"%d" % (200000 * MIB))))
         self.tables.new().script(MANY % (count, BLOCK_CAPS) + next_is(200000))
 
@@ -168,7 +170,8 @@ class ModesTest(StoredTest):
         self.open_stored("modes-1-to-5.db")
 
     def check_listed(self, nodes):
-        """The volumes are listed with these nodes."""
+        """csid lists the volumes 1 to 7 with these nodes. `nodes` has the nodes by volume number, for the
+        attached volumes."""
         page = reply(b"".join(listed(number, *nodes.get(number, [])) for number in range(1, 8)))
         self.assertEqual(self.tables.run(controller("ListVolumes")), (page, "", 0))
 
@@ -210,7 +213,7 @@ class FormatTest(StoredTest):
     with a parameter, and format-1-1000.db a thousand, all of 1 MiB in p1, as block with mode 1."""
 
     def pages(self, count):
-        """Returns the calls that list the volumes, and the replies."""
+        """Returns the calls that list the volumes 1 to `count`, 100 on a page, and the replies."""
         calls, replies = b"", b""
         for first in range(0, max(count, 1), 100):
             last = min(first + 100, count)

@@ -294,7 +294,8 @@ class ChangeTest(PlayedTest):
         server.end()
 
     def test_change_that_fails_is_refused_with_all_later_ones(self):
-        """The next connection reads the rows again."""
+        """The failed change and the later calls are refused, except Probe. If the change store has ended its
+        connection, the later calls get no reply. The next connection reads the rows again."""
         stays = DOWN + v.READY + DOWN
         for name, reply, rest, line in [
             ("a refusal", v.refusal(8, "etcd has no room"), stays, ""),
@@ -440,7 +441,7 @@ class StarvingStore(KeptChangeStore):
 
 
 def status_of(csid, key):
-    """Returns the first word of a line of /proc/PID/status."""
+    """Returns the first value in the line `key` of /proc/PID/status, as a text."""
     with open("/proc/%d/status" % csid) as lines:
         return next(line.split()[1] for line in lines if line.startswith(key + ":"))
 

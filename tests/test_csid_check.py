@@ -121,7 +121,7 @@ class CheckTablesTest(CsidTest):
         self.assertEqual(self.check_kept(self.tables), self.SUMMARY)
 
     def test_tables_are_checked_while_they_are_served(self):
-        """A volume is only in the WAL. The server continues."""
+        """A check finds the volume that is only in the WAL, and changes nothing. The server continues."""
         self.fill()
         made = reply(VOLUME_1.replace(b"vol-1", b"vol-3"))
         streams = dict.fromkeys(("stdin", "stdout", "stderr"), subprocess.PIPE)
@@ -147,8 +147,9 @@ class CheckTablesTest(CsidTest):
 
 
 def feed(path, contents, copies):
-    """Gives the pipes the bytes that csid reads: the head and the journal, and for each copy the file, the
-    WAL, the file again, and the header of the WAL. Each is opened after the one before has ended."""
+    """Writes what csid reads into the pipes at `path`: the head of the file and an empty journal, and for
+    each copy the file, an empty WAL, the file again and an empty WAL. `copies` has for each copy the numbers
+    of the two contents of the file. Each pipe is opened after the one before has ended."""
     reads = [("", contents[0][:105]), ("-journal", b"")]
     for before, after in copies:
         reads += [("", contents[before]), ("-wal", b""), ("", contents[after]), ("-wal", b"")]

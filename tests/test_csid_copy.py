@@ -62,8 +62,9 @@ class CopyTest(CsidTest):
                 pathlib.Path(path + ending).write_bytes(content)
 
     def reads(self, file, low, high, again, header):
-        """Returns the reads of one copy: the file, the WAL in two pieces, the file, and the head of the WAL.
-        """
+        """Returns the reads of one copy. The arguments are moments: the file is read at `file`, the first
+        piece of the WAL at `low` and the second at `high`, the file again at `again`, and the head of the WAL
+        at `header`."""
         return [
             ("", file.database),
             ("-wal", low.wal[: self.cut] + high.wal[self.cut :]),

@@ -154,7 +154,7 @@ class ReplacementTest(DiskTest):
 
 
 class FullDiskTest(DiskTest):
-    """A disk without a free byte."""
+    """csid over tables on a small disk. A test fills the disk, and then makes room again."""
 
     def setUp(self):
         super().setUp()

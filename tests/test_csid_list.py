@@ -128,7 +128,8 @@ class ListTest(ListedTest):
         self.check("none", self.document(Tables(self.csid, self.folder, "new.db").new()), empty)
 
     def test_chosen(self):
-        """A volume is listed if it has the given name, pool and node. The sums count only listed volumes."""
+        """A volume is listed if it has the given name, id, pool and node. The sums of pools and nodes count
+        only listed volumes."""
         tables = self.tables.new().script(ROWS)
         for name, options, ids in [
             ("a name", ["--name", "a b"], ["vol-2"]),

@@ -113,7 +113,8 @@ class ReserveTest(CsidTest):
     NODES = ["n%02d" % it + "n" * 253 for it in range(64)]
 
     def serve_low(self, volumes, caps, size=9 * MIB):
-        """Returns a csid over this many volumes, with little memory."""
+        """Returns a csid with --low-memory and at most `size` bytes of memory. Its file has this many
+        volumes, each with the capabilities `caps`."""
         nodes = ["[[node]]\nid = '%s'\nmax_volumes = 100000\n" % it for it in self.NODES]
         pool = LARGE_POOL.replace(b"2147483648", b"%d" % (100_000 * MIB))
         config = self.configure(pool + "".join(nodes).encode())
@@ -121,8 +122,8 @@ class ReserveTest(CsidTest):
         return self.serve("--config", config, "--low-memory", preexec_fn=memory_of(size))
 
     def fill(self, server, calls, least):
-        """Makes calls over one connection. At least `least` calls succeed, then memory is refused, and the
-        next connection is answered."""
+        """Makes calls over one connection. At least `least` calls succeed, but not all. From the first
+        refusal for memory on, csid refuses all calls of the connection. The next connection is answered."""
         came = server.answers(calls)
         self.assertEqual(server.ask(v.listing(v.max_entries(1)))[:1], b"\0")
         made = came.count(0)

@@ -328,7 +328,7 @@ class LastPeerTest(CsidTest):
 
 
 class KindTest(CsidTest):
-    """Tables that are no regular file."""
+    """csid refuses a named pipe in the place of a file of tables or of its WAL."""
 
     def test_named_pipe_is_refused(self):
         tables = self.tables

@@ -164,7 +164,8 @@ class AccessTest(ServeTest):
         self.assertEqual(server.end(), (line, 7, False))
 
     def test_group_is_sought_by_name_and_then_by_number(self):
-        """/etc/group is replaced for csid."""
+        """csid sees another /etc/group, in which some groups have numbers as names. A word that is no number
+        is refused if no valid group there has this name."""
         groups, program = os.path.join(self.folder, "groups"), os.path.join(self.folder, "csid-with-groups")
         write(groups, GROUPS)
         bind = 'exec unshare --mount sh -c \'mount --bind "$0" /etc/group && exec "$@"\' %s %s "$@"\n'
@@ -467,7 +468,8 @@ class WaitingPeersTest(ServeTest):
         self.assertLess(time.monotonic() - begin, 5)
 
     def test_peers_without_a_call_make_room_where_descriptors_are_scarce(self):
-        """There is room for about 40 connections, and 200 come. The others are closed, several at a time."""
+        """csid has descriptors for about 40 connections, and 200 connections come that send nothing. csid
+        closes some of them, several at a time, and then answers a call."""
         server = self.serve(preexec_fn=few_files)
         begun = server.lines()
         for _ in range(200):
@@ -502,7 +504,8 @@ class GonePeersTest(ServeTest):
         self.assertEqual(server.end(), (refused + GONE * 3 + refused, KILLED, True))
 
     def test_call_after_1000_that_have_gone_waits_less_than_5_seconds(self):
-        """The file takes a while to open. None of the calls is made, and each connection is counted."""
+        """The file takes a while to open. None of the calls is made. A connection that sent bytes has a line
+        or is in a count, and a connection that sent nothing is not reported."""
         config = self.configure(sample((b"10485760", b"%d" % (20000 * MIB))))
         self.tables.new().script(MANY % (20000, BLOCK_CAPS) + next_is(20001))
         server = self.serve("--config", config)

@@ -28,8 +28,8 @@ def handles(count):
 
 
 def done(peer):
-    """Returns the rest of a connection whose calls were all answered. csid closes the file before the
-    connection."""
+    """Ends the calls of a connection, after all of them were answered. Returns the next bytes, which are none
+    if csid closes the connection. csid closes the file before that."""
     peer.shutdown(socket.SHUT_WR)
     return peer.recv(4096)
 

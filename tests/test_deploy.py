@@ -418,7 +418,8 @@ class DeployTest(RowTest):
         self.check("where the job may run", len(named), 1)
 
     def test_sockets(self):
-        """Each front gets the socket of its csid, and each sidecar the socket of its front."""
+        """Each front gets the socket of its csid, and each sidecar the socket of its front. The sockets are
+        in folders that the units, the Nomad job and the manifests have."""
         for where, self.csid, self.front in commands():
             self.check("the socket of csid in " + where, value(self.front, "--csid"),
                        value(self.csid, "--socket"))
@@ -482,7 +483,8 @@ class DeployTest(RowTest):
 
     @each(STATUSES)
     def test_statuses(self, name, program, done, refused):
-        """A refused program is not started again, and the unit has its own words for the status."""
+        """systemd does not start a program again that ended with a status in `refused`. After status 3 the
+        unit prints a line with this status, and after status 0 or a signal no line."""
         unit = Unit(name)
         self.check("the statuses of " + name,
                    (unit.all("SuccessExitStatus"), unit.all("RestartPreventExitStatus")), (done, refused))
@@ -623,8 +625,9 @@ class DeployTest(RowTest):
         self.check_verified(UNITS + [ETCD_UNIT], DIFFERENCES)
 
     def check_verified(self, names, differences):
-        """Checks that systemd accepts these units and reports little exposure. They are copied into a folder,
-        with /bin/true as their programs. `differences` has, by unit, the file of a drop-in."""
+        """Checks that systemd accepts these units of deploy/, and that the exposure of each is at most
+        EXPOSURE. `differences` has the file of a unit's drop-in by the name of the unit. /bin/true replaces
+        the programs of the units."""
         with tempfile.TemporaryDirectory() as folder:
             for name, place in [(it, it) for it in names] + [(file, unit + ".d/etcd.conf")
                                                              for unit, file in differences.items()]:

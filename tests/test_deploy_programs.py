@@ -235,7 +235,7 @@ class ProcessesTest(ProgramTest):
     """The commands of the manifests as first processes of namespaces. Folders and programs differ."""
 
     def test_first_processes(self):
-        """csid and the front end by SIGTERM."""
+        """csid and the front, each as the first process of a namespace, end by SIGTERM."""
         need_namespaces()
         manifest = Kubernetes()
         for name, socket in [("csid", "/run/csid/csid.sock"), ("front", "/csi/csi.sock")]:

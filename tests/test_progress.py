@@ -21,7 +21,8 @@ TABLE = """| crate | proof | wrong bodies | programs |
 
 
 class ProgressTest(FilesTest):
-    """A gate of three crates. Each uses the one before. The test writes the lines."""
+    """scripts/progress over the lines of a gate, which the test writes. The gate has three crates, and each
+    uses the crate before it."""
 
     def setUp(self):
         super().setUp()

@@ -21,7 +21,7 @@ def declaration(name, search, kernel, used):
 
 
 class ProofCostsTest(FilesTest):
-    """A crate with one function, and the records of two checks."""
+    """scripts/proof-costs over a crate with one function, and the records of two checks of this crate."""
 
     def put(self, name, data):
         path = os.path.join(self.folder, name)

@@ -60,7 +60,8 @@ class RecipesTest(RecipeTest):
             self.check("the front is back", place.control.runs("csid-front") is not None, True)
 
     def test_daily_copies(self):
-        """There are fifteen copies of earlier days. With a new copy the last 14 stay."""
+        """There are fifteen copies of earlier days. After a new copy there are fourteen: the new one, and the
+        thirteen newest of the earlier ones."""
         days = ["2026-01-%02d-000000.db" % day for day in range(1, 16)]
         with Place(self.csictl, self.csid) as place:
             place.call(*create("a"))
@@ -86,7 +87,8 @@ class RecipesTest(RecipeTest):
 
     def test_restore_of_attachments(self):
         """After the copy, vol-1 moved from n1 to n2, vol-2 was detached and deleted, vol-3 was attached at
-        n1, and vol-40 was created and attached read-only at n2. vol-4 did not change."""
+        n1, and vol-40 was created and attached read-only at n2. vol-4 did not change. The recipes show these
+        differences, and repair all but one: vol-2 is left, and can be deleted."""
         detached, attached = "vol-1 rw n1\nvol-2 rw n1\n", "vol-1 rw n2\nvol-3 rw n1\nvol-40 ro n2\n"
         with Place(self.csictl, self.csid) as place:
             copies = self.begin_restore(place)
@@ -213,7 +215,9 @@ class RecipesTest(RecipeTest):
             self.check("the next volume there", new.call(*create("b")), "0 OK\nvolume vol-2 1048576\n")
 
     def test_upgrade(self):
-        """The programs are the same before and after. The file has format 1 before."""
+        """An upgrade copies the programs and the file, and csid adopts the file, which has format 1. The way
+        back and a restore bring back the programs and the file of format 1. In this test the new programs are
+        the same as the old ones."""
         with Place(self.csictl, self.csid) as place:
             place.must("systemctl stop csid; rm /var/lib/csid/*")
             shutil.copy(os.path.join(TOP, "tests", "stored", "format-1-1.db"), place.folder + "volumes.db")
@@ -229,8 +233,9 @@ class RecipesTest(RecipeTest):
                        (has(1, 0, 2, format=1), "", 0))
 
     def test_pages(self):
-        """A file of an earlier release is adopted, and keeps the size of its pages. The recipe 'Smaller
-        pages' then makes them smaller and keeps the rows. Its copy of the file has the earlier size."""
+        """csid adopts a file of an earlier release, which keeps its pages of 4,096 bytes. The recipe for
+        smaller pages then gives the file pages of 1,024 bytes, as a new file has, with the same rows. Its
+        copy keeps the pages of 4,096 bytes."""
         with Place(self.csictl, self.csid) as place:
             size = "PRAGMA page_size"
             self.check("the pages of a file that is made", place.in_folder('sqlite3 volumes.db "%s"' % size),
@@ -340,7 +345,8 @@ ROW = "vol-%d  %s     %s    1 MiB  block:SINGLE_NODE_WRITER  -           -      
 
 
 class ChangedConfigurationTest(RecipeTest):
-    """vol-1 and vol-2 are in p1 and attached at n1, vol-3 is in p2."""
+    """The recipes for a changed configuration, over three volumes: vol-1 and vol-2 are in p1 and attached at
+    n1, and vol-3 is in p2."""
 
     def setUp(self):
         super().setUp()
@@ -431,8 +437,8 @@ class KubernetesChangeTest(RecipeTest):
         self.before = self.place.control.runs("csid")
 
     def changes(self, gibibytes):
-        """Gives the pool of 10 TiB, with 2 GiB in use, another size, and runs the commands. Returns the
-        output, the errors and the status."""
+        """Sets the size of the pool of 10 TiB in the manifest to this many GiB, and runs the commands that
+        change it. Volumes have 2 GiB of the pool. Returns the output, the errors and the status."""
         text = pathlib.Path(self.manifest).read_text()
         self.assertEqual(text.count("bytes = %d\n" % (10 << 40)), 1)
         with open(self.manifest, "w") as file:

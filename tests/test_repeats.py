@@ -22,7 +22,8 @@ def a_volume(number, *nodes):
 
 
 def listing(before, after):
-    """Returns the question for all volumes and their nodes."""
+    """Returns a question: a call that lists all volumes with their nodes, and its replies with these entries
+    before the repeat and after it."""
     return v.listing(), v.page(*before), v.page(*after)
 
 

@@ -8,7 +8,9 @@ from tests.kubernetes.refused import refused_rows
 
 
 def try_rows(cluster, others, number, replaced):
-    """Dry runs of the manifest, which has this number of objects besides its namespace."""
+    """Dry runs of the manifest `others`, which has this number of objects besides its namespace. `replaced`
+    has the parts that were replaced for an older server. If there are such parts, the server must refuse the
+    original manifest."""
     status, lines, why = cluster.kubectl("apply", "--dry-run=server", "--validate=true", text=others)
     wanted = 0, ["created (server dry run)"] * number, ""
     yield "a try of the manifest", (status, said(lines), why), wanted

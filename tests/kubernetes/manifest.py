@@ -57,7 +57,8 @@ def pod_alone(whole):
 
 
 def place(document, path):
-    """Returns the object that has the last key of a path, and this key."""
+    """Returns the object or list that has the last key of a path, and this key. The keys have dots between
+    them. A key of digits is an index of a list."""
     words = [int(word) if word.isdigit() else word for word in path.split(".")]
     for word in words[:-1]:
         document = document[word]
@@ -73,7 +74,8 @@ def misspelt(document, path, wrong):
 
 
 def changed(document, path, value):
-    """Returns an object with another value of a field, or without the field."""
+    """Returns a copy of an object with another value of the field at `path`, or without this field if the
+    value is GONE."""
     document = copy.deepcopy(document)
     holder, name = place(document, path)
     if value is GONE:
@@ -102,7 +104,8 @@ def missing(meant, found, path=""):
 
 
 def bare(one):
-    """Returns an object without its metadata and status, and its generation."""
+    """Returns an object without its metadata and status, and its generation, or None if it has no generation.
+    """
     own = {key: value for key, value in one.items() if key not in ("metadata", "status")}
     return own, one["metadata"].get("generation")
 

@@ -44,7 +44,8 @@ def without_tokens(pod):
 
 
 def made_rows(cluster, whole):
-    """The StatefulSet owns the pod and its claim."""
+    """The pod has each value of the StatefulSet's template, and mounts the claim and the token of the
+    account. The StatefulSet owns the pod and its claim."""
     pod = wait(lambda: cluster.get(PATH))
     tokens = without_tokens(pod)
     meant = copy.deepcopy(whole["template"])

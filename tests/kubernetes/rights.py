@@ -39,7 +39,8 @@ def can(cluster, group, resource, verb, namespace):
 
 
 def said_rows(cluster, may):
-    """Asks kubectl for each right alone, if the account has it."""
+    """Asks kubectl about each right alone. The account has the rights of its roles, the rights of the Role
+    only in the namespace csid, and no right of "MUST NOT"."""
     for role, namespace in [("ClusterRole", "default"), ("Role", "csid")]:
         for group, resource, verb in sorted(may[role]):
             found = can(cluster, group, resource, verb, namespace)

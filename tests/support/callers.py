@@ -36,7 +36,8 @@ def connection(path, patience):
 
 
 class Fronts:
-    """Fronts on whose control sockets clients call."""
+    """The fronts that the clients of a history call at control sockets. A subclass starts the programs, and
+    has `kill`, which ends a program and starts it again, and `end`."""
 
     # The paths of the control sockets. The path of the front that answered last is the first.
     paths = []
@@ -233,10 +234,11 @@ def clears(caller):
 
 
 def record(fronts, seed, is_shared, is_killed):
-    """Returns the operations of a history of three clients: at most twelve calls at the same time, then one
-    client deletes all volumes. In a shared history all clients use one volume, and each try is an operation.
-    Otherwise two clients use a volume each, the third client reads, and a call with its repeats is an
-    operation."""
+    """Records a history, and returns its operations. Three clients make at most twelve calls in all, side by
+    side. Then a fourth client deletes all volumes. In a shared history the three clients use one volume,
+    which the fourth has created, and each try is an operation. Otherwise two clients use a volume each, the
+    third lists the volumes, and a call with its repeats is an operation. With `is_killed` a program is killed
+    during the calls."""
     operations, source = [], random.Random(seed)
     own = Caller(fronts, 3, operations, True, random.Random("%s own" % seed))
     callers = [Caller(fronts, number, operations, not is_shared, random.Random("%s %d" % (seed, number)))

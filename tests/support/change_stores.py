@@ -11,7 +11,9 @@ OK = v.reply()
 
 
 class ChangeStore:
-    """A change store at a socket. It leads until a test sets `leads`. Each connection has a thread."""
+    """A change store at a socket. It answers Lead with OK unless a test sets `leads` to False. For each other
+    call `answer` of a subclass returns the reply, or None to close the connection. Each connection has a
+    thread."""
 
     def __init__(self, path):
         self.path, self.peers, self.leads = path, [], True
@@ -115,8 +117,8 @@ def fields(message):
 
 
 class KeptChangeStore(ChangeStore):
-    """A change store that keeps rows in this process. The next change fails in the way of `fault`: it is
-    refused, or the connection ends before or after it is made."""
+    """A change store that keeps rows in this process. If `fault` is set, the next Commit fails, and no later
+    one: it is refused (REFUSES), or the connection ends before (ENDS) or after (LOSES) the change is made."""
 
     REFUSES, ENDS, LOSES = "refuses", "ends", "loses"
 

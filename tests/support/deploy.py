@@ -285,7 +285,8 @@ class Pod:
                        timeout=SECONDS)
 
     def start(self, name, others={}):
-        """Starts the command of a container, with some of its words replaced."""
+        """Starts the command of a container. `others` has replacements for some of its words. In the other
+        words the paths of the pod become paths below the folder."""
         container = self.manifest.containers[name]
         words = [others.get(word) or self.below(word) for word in container["command"]]
         given = {e["name"]: e["value"].replace("unix:///", "unix://" + self.folder + "/")

@@ -56,7 +56,8 @@ def coexist(one, other):
 
 
 def size_of(required, limit):
-    """Returns the size of a new volume, or None if the sizes are out of range."""
+    """Returns the size of a new volume, or None if the required size and the limit allow none. 0 stands for a
+    size that the call does not have."""
     if required:
         size = -(-required // MIB) * MIB
     else:
@@ -65,8 +66,9 @@ def size_of(required, limit):
 
 
 class Model:
-    """The volumes in the order of their numbers, and the attachments: a key and the read-only flag, by number
-    and node."""
+    """The State: the next number, the volumes in the order of their numbers, and the attachments. An
+    attachment is a capability key and the read-only flag, by volume number and node. The method of a call
+    returns the reply and a description of what happened."""
 
     def __init__(self):
         self.next, self.volumes, self.attachments = 1, [], {}
@@ -175,8 +177,9 @@ class Model:
         return v.confirmed(map(capability, keys), dict(sorted(given.items()))), "confirmed"
 
     def listing(self, most, token):
-        """Returns the reply for a page, a description, the numbers of its volumes, and the token of the next
-        page."""
+        """Returns the reply, a description, the numbers of the volumes in the page, and the token of the next
+        page. The token is '' for the last page and for a refusal. A page has at most `most` volumes, and 100
+        if `most` is 0."""
         if token and (not token.isdigit() or token != str(int(token)) or not 0 < int(token) < self.next):
             return v.BAD_TOKEN, "bad starting token", [], ""
         beyond = [it for it in self.volumes if it.number > int(token or 0)]
@@ -194,7 +197,7 @@ class Model:
         return v.free(sum(parts), min(max(parts, default=0), GREATEST)), "capacity"
 
     def breaks(self):
-        """Returns the first rule that the volumes break, or None."""
+        """Returns a text about the first rule that the volumes or attachments break, or None."""
         names, at = [it.name for it in self.volumes], collections.Counter(
             node for _, node in self.attachments
         )

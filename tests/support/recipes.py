@@ -49,13 +49,14 @@ def blocks(heading, name="OPERATING.md"):
 
 
 def stands(text):
-    """Returns a text, which must be in the page word for word."""
+    """Returns the text. Fails if docs/OPERATING.md does not have it word for word."""
     assert text in page(), "it does not stand in the page: " + text
     return text
 
 
 def config(pools, nodes):
-    """Returns a configuration with pools (MiB and zones) and nodes (numbers of volumes)."""
+    """Returns a configuration. `pools` has the MiB and the zone of each pool by name, and `nodes` the
+    greatest number of volumes of each node."""
     text = (
         'name = "pools.example.org"\nvendor_version = "1.0.0"\ndefault_bytes = %d\ngreatest_bytes = %d\n'
         % (MIB, 8 * MIB)
@@ -68,7 +69,7 @@ def config(pools, nodes):
 
 
 class Control:
-    """The systemctl of the recipes, over the folder in the variable PLACE."""
+    """The systemctl of the recipes. The files of its units are below the folder `top`."""
 
     def __init__(self, top):
         self.top = top
@@ -295,7 +296,8 @@ def wait(happens):
 
 
 class Place:
-    """A folder for recipes, with a csid over a file without volumes if it `is_new`."""
+    """A folder with the folders and the programs that recipes use. With `is_new` a csid runs over a new file
+    without volumes. `more` has the paths of further programs by name."""
 
     def __init__(self, csictl, csid, is_new=True, **more):
         self.top = tempfile.mkdtemp()
@@ -354,8 +356,8 @@ class Place:
         assert said[2] == 0, (text, said)
 
     def recipe(self, heading, number=0, page="OPERATING.md", **variables):
-        """Runs a block of a recipe in the folder of the file. Returns the output, the errors and the status.
-        """
+        """Runs the block `number` under a heading of a page, counted from 0, in the folder of the file.
+        `variables` are variables of the environment. Returns the output, the errors and the status."""
         return self.shell(blocks("## Copies and restores")[0] + blocks(heading, page)[number], **variables)
 
     def in_folder(self, command):
@@ -383,7 +385,7 @@ class Place:
         return os.path.join(self.top, "root", name)
 
     def owners(self):
-        """Returns the owners of the files of volumes."""
+        """Returns the user and group ids that own the files of volumes, without repeats."""
         return {(os.stat(it).st_uid, os.stat(it).st_gid) for it in glob.glob(self.folder + "volumes.db*")}
 
     def modes(self):

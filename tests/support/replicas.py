@@ -101,9 +101,10 @@ class Stack(Replica):
 
 
 class Stacks(Fronts):
-    """Two stacks over one etcd, of which one serves at a time, or with `is_apart` each over its own etcd. A
-    change without a reply is made before the next call is served, or never (docs/PROTOCOL.md, "The change
-    store"). So a call ends when its client gives up, although csid-etcd may still make its change."""
+    """Two stacks. Both are over one etcd, and one stack serves at a time. With `is_apart` each stack has its
+    own etcd. A change without a reply is made before the next call is served, or never (docs/PROTOCOL.md,
+    "The change store"). So an operation without a reply ends when its client gives up, although csid-etcd may
+    still make the change."""
 
     # A program is ended in three of ten histories, with equal shares for both kinds of history.
     killed = (2, 5, 8, 11, 14, 17)

@@ -49,7 +49,8 @@ def test_of(method, row):
 
 
 class RowTest(unittest.TestCase):
-    """A test whose cases are rows. It has a folder, and fails after `longest` seconds."""
+    """A class of tests. A method with `each` becomes a test for each row. Each test has a new folder, which
+    is removed after the test, and fails after `longest` seconds."""
 
     longest = 10 * SECONDS
 
@@ -80,7 +81,7 @@ class RowTest(unittest.TestCase):
 
 
 class FilesTest(RowTest):
-    """A test with files in its folder."""
+    """A test that puts files into its folder: fixtures, or texts that it writes."""
 
     def put(self, fixture):
         """Copies a folder of tests/fixtures. Sources and lists of crates end in `.txt` there, since the gate
@@ -101,7 +102,8 @@ class FilesTest(RowTest):
 
 
 class CsidTest(RowTest):
-    """A test of csid, with a file of tables in its folder."""
+    """A test of csid. `tables` is a file of tables and `config` the path of a configuration, both in the
+    folder of the test. Neither file exists at first."""
 
     def setUp(self):
         super().setUp()

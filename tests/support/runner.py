@@ -32,8 +32,8 @@ class Report:
 
 @dataclasses.dataclass
 class Outcome:
-    """The result of the tests of a class: their number and seconds, a text for each, and the lists of a
-    result."""
+    """The result of the tests of a class: the number of tests, the seconds of all, the text that unittest
+    wrote, and the failures, errors and skipped tests, each as a Report and a text."""
 
     count: int
     seconds: float
@@ -54,7 +54,7 @@ class Text(io.StringIO):
 
 
 def reports(result, found):
-    """Yields pairs of a report and a text for pairs of a test and a text."""
+    """Yields a Report and the text for each entry of a list of a result. An entry is a test and a text."""
     for test, text in found:
         case = getattr(test, "test_case", test)
         name = case.id() if isinstance(case, unittest.TestCase) else None
@@ -107,7 +107,8 @@ def by_class(suite, classes):
 
 
 def place(name):
-    """Returns the position of a class in the order of starts."""
+    """Returns the rank of a class in the order of starts: the place of its module in LONGEST. All other
+    classes share the last rank."""
     module = name.split(".")[1]
     return LONGEST.index(module) if module in LONGEST else len(LONGEST)
 

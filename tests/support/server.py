@@ -75,7 +75,8 @@ class Served:
 
 
 class Server(Served):
-    """csid at a socket next to its file."""
+    """csid at a socket in a folder, over the file of tables `tables`, or over volumes.db in the same folder.
+    """
 
     def __init__(self, csid, folder, *words, tables=None, **how):
         self.path = os.path.join(folder, "csid.sock")
@@ -97,13 +98,13 @@ class Server(Served):
         return "csid: %s: %s\n" % (self.tables, what)
 
     def has(self, volumes, attachments, number):
-        """Returns the line about the contents of the tables."""
+        """Returns the line about the contents of the tables, with these counts and this next number."""
         counts = volumes, attachments, number
         return self.line("volumes %d, attachments %d, next number %d, format 2" % counts)
 
     def end(self):
-        """Ends csid, and removes its socket. Returns all its lines, its status, and True if it had left its
-        socket."""
+        """Kills csid if it runs, and removes its socket. Returns all its lines, its status, and True if it
+        had left its socket."""
         if self.process.poll() is None:
             self.process.kill()
         status = self.process.wait()
@@ -117,8 +118,9 @@ KILLED = -signal.SIGKILL
 
 
 def ended(lines, line):
-    """Returns the numbers of ended connections by their way of ending: the lines that equal `line` under "of
-    a line", and the numbers in lines with counts under the words of these lines."""
+    """Returns the numbers of connections by the way in which they ended. Under "of a line" is the number of
+    lines that equal `line`. The other keys and numbers are the parts of csid's lines `N more connections
+    ended: ..`, such as `2 HOW`."""
     counts = collections.Counter({"of a line": lines.count(line)})
     for told in re.findall(r"(?m)^csid: \d+ more connections ended: (.*)$", lines):
         for part in told.split(", "):

@@ -84,8 +84,8 @@ def block(mode):
 
 
 def pairs(field, key, size):
-    """Returns the hexadecimal digits of a field of parameters with one entry: a key of one byte, and a value
-    of 128 to 16,000 bytes."""
+    """Returns the hexadecimal digits of a map entry with this field number: a key of one byte, and a value of
+    `size` bytes (128 to 16,000)."""
 
     def long(tag, length):
         return bytes([tag, length & 127 | 128, length >> 7])
@@ -99,7 +99,8 @@ def cell(digits):
 
 
 class Tables:
-    """A file of tables for csid."""
+    """A file of tables in a folder, for csid and for Python's sqlite3. The file does not exist before one of
+    them makes it. `command` runs `csid pipe` over it."""
 
     def __init__(self, csid, folder, name="volumes.db"):
         self.csid, self.path = csid, os.path.join(folder, name)
@@ -137,7 +138,8 @@ class Tables:
         return run([self.csid, "--check-tables", self.path] + (["--config", config] if config else []), **how)
 
     def files(self):
-        """Returns the bytes of the file and of its WAL by name, for those that exist."""
+        """Returns the bytes of the file and of the files next to it whose names begin with its name, such as
+        the WAL. The keys are the names."""
         found = {}
         for name in sorted(os.listdir(os.path.dirname(self.path))):
             if name.startswith(os.path.basename(self.path)):

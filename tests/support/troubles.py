@@ -88,7 +88,7 @@ DISK_LINES = re.compile(
 
 class Disk:
     """A small disk with the file of a csid that runs without the rights of root, and the troubles of the
-    disk. Each method returns the function that ends the trouble."""
+    disk. A method that makes a trouble returns the function that ends it."""
 
     def __init__(self, run):
         self.run, self.folder, self.file = run, run.path("disk"), run.path("disk/db")
@@ -330,7 +330,8 @@ class Stack:
         return ids is not None
 
     def ends(self):
-        """Ends the callers. The listing and etcd agree with their replies."""
+        """Ends the callers. Checks that the listing and the rows of etcd then have the volumes that the
+        replies have given."""
         self.over.set()
         self.run.check("the callers end",
                        wait(lambda: self.revive() and not any(it.is_alive() for it in self.callers),

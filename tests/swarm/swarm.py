@@ -55,7 +55,7 @@ class Swarm:
         return {each["Name"]: (each["ClusterVolume"].get("Info") or {}).get("VolumeID", "") for each in found}
 
     def created(self):
-        """Returns the created volumes of Swarm."""
+        """Returns the ids of the created volumes of Swarm by name."""
         return {name: volume for name, volume in self.volumes().items() if volume}
 
     def rows(self):
@@ -73,7 +73,7 @@ class Swarm:
         return self.created() == self.kept()
 
     def both(self):
-        """Returns the volumes of Swarm, and the volumes of csid."""
+        """Returns the ids of all volumes of Swarm by name, and the ids of the volumes of csid by name."""
         return self.volumes(), self.kept()
 
     def attached(self):
@@ -81,7 +81,7 @@ class Swarm:
         return {row["id"]: row["nodes"] for row in self.rows().values() if row["nodes"]}
 
     def devices(self):
-        """Returns the volume id of each loop device."""
+        """Returns the id of the volume for each loop device over the data of a volume."""
         files = [path for path in self.engine.data() for _ in devices_of(path)]
         return [os.path.basename(path).removesuffix(".img") for path in files]
 

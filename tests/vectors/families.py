@@ -52,9 +52,9 @@ CREATE = (create(block(1)), CREATED)
 
 
 def calls(capability, replies):
-    """Returns four calls with a capability, each with its reply: a create, a publish, a validation and a
-    question for the capacity. `replies` has five items. The second is not a reply, but a list of further
-    calls with their replies, which follow the create."""
+    """Returns the steps for a capability: a create, further steps, and then a publish, a validation and a
+    GetCapacity. `replies` has the reply to the create, the list of the further steps, and the replies to the
+    three last calls."""
     return [(create(capability), replies[0]), *replies[1],
             (publish(N1, capability), replies[2]),
             (call("ValidateVolumeCapabilities", unhex(VOL_1 + "1a" + capability)), replies[3]),
@@ -84,8 +84,9 @@ MODES = {"In plain bytes: each access mode, of a block device and of a mount": {
 
 
 def pair(first, second, allowed):
-    """Returns the steps for a mode at the first node, and then another mode at that node and at the second
-    node."""
+    """Returns steps for a volume with all modes of a block device. It is published with the mode `first` at
+    n1, and then with `second` at n1, at n2, and after an unpublish at n2 again as read-only. `allowed` is the
+    letter for both modes in BESIDE."""
     return [(create(*map(block, range(1, 8))), CREATED),
             (publish(N1, block(first)), WRITER),
             (publish(N1, block(second)), WRITER if first == second else OTHERWISE),
