@@ -143,8 +143,9 @@ fn judge_seen<S: Alter>(
     judge_joined(alloc, conn, config, tables)
 }
 
-// Checks and counts the rows of volumes and attachments, constraint by constraint. The results of the scans
-// are large, so they are passed by reference to the functions that may fail.
+// Checks the rows of volumes and attachments, constraint by constraint. If they pass, sets `content` to their
+// counts and the next number, and returns the results of the scan over volumes. The results of the scans are
+// large, so they are passed by reference to the functions that may fail.
 fn judge_after<S: Alter>(
     alloc: Global,
     conn: &mut IdleConnection<S>,
@@ -178,7 +179,8 @@ fn see_row<S: Alter>(conn: &mut IdleConnection<S>) -> Result<Meta, AdoptFault>
     judge_meta(rows)
 }
 
-// Checks all rows, beginning with the row of `meta`.
+// Checks all rows, beginning with the row of `meta`. If they pass, sets `content` to their counts and the
+// next number, and returns the results of the scan over volumes.
 fn judge_rows<S: Alter>(
     alloc: Global,
     conn: &mut IdleConnection<S>,
@@ -328,7 +330,7 @@ fn roll_back<S: Alter>(conn: &mut Connection<S>)
     conn.transaction().rollback();
 }
 
-// Checks the tables of a database, makes a keeper over them, and sets `content` to the numbers of their rows
+// Checks the tables of a database, makes a keeper over them, and sets `content` to the counts of their rows
 // and the next number. A database without tables gets new tables, and `content` is unchanged.
 fn adopt_into<S: Alter>(
     alloc: Global,
@@ -405,8 +407,8 @@ pub fn adopt<S: Alter>(
 }
 
 /// Checks the tables of a database, and makes a keeper over them, like [`adopt`]. Also returns the next
-/// number and the numbers of volumes and attachments, which the checks count without a further read. A
-/// database without tables gets new tables.
+/// number and the counts of volumes and attachments, which the checks find without a further read. A database
+/// without tables gets new tables.
 ///
 /// # Errors
 ///

@@ -58,6 +58,10 @@ fn full_node<'a>(nodes: &'a [Node], volumes: &[TextSum]) -> Option<&'a Node>
 
 /// Checks that no node has more attachments than its greatest number of volumes. `volumes` has the number of
 /// attachments of each node, in the order of `nodes`.
+///
+/// # Errors
+///
+/// Returns the fault of the first node with too many attachments, or [`AdoptFault::NoMemory`].
 pub(crate) fn check_nodes(
     alloc: Global,
     nodes: &[Node],

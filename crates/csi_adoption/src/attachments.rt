@@ -114,7 +114,8 @@ pub(crate) fn see_attachments<S: Alter>(
 }
 
 /// Returns the first attachment, in rising order of volume numbers, whose volume does not exist or does not
-/// have the attachment's capability. Returns `None` if there is no such attachment.
+/// have the attachment's capability. Returns `None` if there is no such attachment. Fails if the database or
+/// memory fails.
 pub(crate) fn see_owners<S: Alter>(
     alloc: Global,
     conn: &mut IdleConnection<S>,
@@ -135,7 +136,8 @@ pub(crate) fn see_owners<S: Alter>(
 }
 
 /// Returns the first attachment, in rising order of volume numbers, that cannot coexist with an earlier
-/// attachment of its volume. Returns `None` if there is no such attachment.
+/// attachment of its volume. Returns `None` if there is no such attachment. Fails if the database or memory
+/// fails.
 pub(crate) fn see_apart<S: Alter>(
     alloc: Global,
     conn: &mut IdleConnection<S>,

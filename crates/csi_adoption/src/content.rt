@@ -1,4 +1,4 @@
-//! The numbers of rows that adopted tables have.
+//! The counts of the rows of adopted tables.
 
 ghost use Rattle.std.specs.Prelude.{◌≡◌};
 
@@ -6,14 +6,14 @@ use crate::adopting::TablesSeen;
 use crate::meta::Meta;
 use csi_constraints::TextSum;
 
-/// The numbers of rows in adopted tables, and the next number. The scans that check the rows count them.
+/// The counts of the rows of adopted tables, and the next number. The scans that check the rows count them.
 #[derive(Clone, Copy, Debug)]
 pub struct Content {
-    /// The number of rows in the table of volumes.
+    /// The number of rows in the table of volumes. Adopted tables have at most 100,000.
     pub volumes: u64,
     /// The number of rows in the table of attachments, or the greatest `u64` if there are more.
     pub attachments: u64,
-    /// The number that the next volume gets.
+    /// The number that the next volume gets, from 1 to 2^62. At 2^62 no further volume can be created.
     pub next_number: u64,
 }
 

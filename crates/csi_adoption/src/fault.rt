@@ -48,7 +48,8 @@ pub enum AdoptFault {
     /// The rows break a constraint of the configuration or of the volume machine.
     #[error("{0}")]
     Broken(BrokenConstraint),
-    /// The database failed a read or a write, with this error.
+    /// The database failed or refused a statement, with this error. If the rowids of a table do not rise, the
+    /// error is `ErrorCode::DatabaseCorrupt`.
     #[error("the database failed: {0}")]
     Store(SqlError),
     /// Memory was refused while the tables were checked, made or upgraded. This says nothing about the rows.

@@ -125,7 +125,8 @@ pub(crate) fn judge_meta(rows: MetaRows) -> Result<Meta, AdoptFault>
     }
 }
 
-/// Scans the table `meta`. Returns its only row, or the fact that it has no row or several rows.
+/// Scans the table `meta`. Returns its only row, or the fact that it has no row or several rows. Fails if the
+/// database or memory fails.
 pub(crate) fn see_meta<S: Alter>(conn: &mut IdleConnection<S>) -> Result<MetaRows, Error>
     requires has_schema { HasCleanDisk (state S.Store conn.old) → conn.old.schema ≡ our_schema }
     ensures scans { Scans S.Store conn.old conn.new result }

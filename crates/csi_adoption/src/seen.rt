@@ -25,7 +25,7 @@ pub(crate) struct VolumesSeen {
     pub pool_bytes: Vec<TextSum>,
     /// For each pool in the order of the configuration, the number of its volumes.
     pub pool_volumes: Vec<TextSum>,
-    /// The number of all rows of volumes.
+    /// The number of all rows of volumes, also of rows that break a constraint.
     pub rows: u64,
 }
 

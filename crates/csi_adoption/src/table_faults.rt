@@ -74,8 +74,8 @@ fn check_count(rows: u64) -> Result<(), AdoptFault>
 }
 
 /// Checks that all attachments of a volume can coexist, and checks the count of each node's attachments and
-/// the count of all volumes. `apart` names the first attachment that cannot coexist with another attachment
-/// of its volume.
+/// the count of all volumes. `apart` names the first attachment that cannot coexist with an earlier
+/// attachment of its volume, or is `None`.
 ///
 /// # Errors
 ///

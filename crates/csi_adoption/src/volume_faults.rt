@@ -12,8 +12,9 @@ use csi_rules::is_overcommitted;
 use csi_types::copy_text;
 use std::alloc::Global;
 
-/// Checks that no volume broke a constraint. `found` names the first row that broke it, or is `None`. In the
-/// fault, a missing number is 0.
+/// Checks that no volume broke a constraint. `found` names the first row that broke it, or is `None`. If
+/// there is such a row, the call fails. The fault has the constraint and the number in the row, or 0 if this
+/// value is not an integer.
 pub(crate) fn check_volume(
     found: &Option<RowName>,
     constraint: VolumeConstraint,
@@ -64,7 +65,8 @@ fn check_next(next: u64) -> Result<(), AdoptFault>
     Ok(())
 }
 
-/// Checks the next number, and that no volume's number or name broke a constraint.
+/// Checks the next number, and that no volume's number or name broke a constraint. `next` is 0 if the next
+/// number in `meta` is out of range. The error is the first fault.
 pub(crate) fn check_numbers(next: u64, seen: &VolumesSeen) -> Result<(), AdoptFault>
     ensures { Reports (number_faults next (reported_volumes seen.now)) result }
 {
@@ -73,7 +75,8 @@ pub(crate) fn check_numbers(next: u64, seen: &VolumesSeen) -> Result<(), AdoptFa
     check_volume(&seen.name, VolumeConstraint::Name)
 }
 
-/// Checks that no volume's pool or size broke a constraint, and that no pool is overcommitted.
+/// Checks that no volume's pool or size broke a constraint, and that the sizes of a pool's volumes add up to
+/// at most the size of the pool. The error is the first fault, or [`AdoptFault::NoMemory`].
 pub(crate) fn check_sizes(
     alloc: Global,
     config: &Config,

@@ -21,7 +21,8 @@ pub(crate) const MAX_TOKEN_BYTES: usize = MAX_MESSAGE_BYTES - TOKEN_HEAD_BYTES;
 /// The methods of a change store (docs/PROTOCOL.md, "The change store").
 #[derive(Clone, Copy)]
 pub(crate) enum ChangeStoreCall {
-    /// Returns one page of the rows.
+    /// Returns one page of the rows. The message has the token of the page, which is empty for the first
+    /// page.
     Read,
     /// Makes the row of the table `meta` in a change store that has no row.
     Make,

@@ -8,7 +8,7 @@ ghost use Rattle.csi_change_store.specs.Pages.{is_cell};
 use pbwire::laws::{listed, spelled};
 use pbwire::{Field, Fields, Value};
 
-// Field numbers of columns are below this number.
+// The length of an array by field number. The field numbers of columns are 1 to 6.
 const NUMBERS: usize = 7;
 
 // The limit of a number in a column: each number is below 2^63, as in SQLite.
@@ -80,7 +80,7 @@ impl<'a> Cells<'a> {
         true
     }
 
-    /// Returns the number in the column with field number `at`.
+    /// Returns the number in the column with field number `at`, or 0 if the row has no such field.
     pub(crate) fn number(&self, at: usize) -> u64
         requires { at < 7 }
         ensures { result ≡ number_of self.now at }
@@ -88,7 +88,7 @@ impl<'a> Cells<'a> {
         self.numbers[at]
     }
 
-    /// Returns the bytes in the column with field number `at`.
+    /// Returns the bytes in the column with field number `at`, or no bytes if the row has no such field.
     pub(crate) fn bytes(&self, at: usize) -> &'a [u8]
         requires { at < 7 }
         ensures { result.now ≡ bytes_of self.now at }

@@ -148,7 +148,8 @@ fn meta_of<'a>(payload: &'a [u8]) -> Result<PageField<'a>, RowsFault>
 ///
 /// # Errors
 ///
-/// `Malformed`, `Untyped` or `Flag` if the tables cannot have the row, and `NoMemory` if memory is refused.
+/// `Malformed` if the field is malformed. `Malformed`, `Untyped` or `Flag` if the tables cannot have its row.
+/// `NoMemory` if memory is refused.
 pub(crate) fn item_of<'a>(alloc: Global, field: Field<'a>) -> Result<PageField<'a>, RowsFault>
     ensures item { IfOk result (λ item. IsItem (wire_field_of field.entry) (seen_item item)) }
     ensures typed { IfOk result (λ item. IsTyped (seen_item item)) }

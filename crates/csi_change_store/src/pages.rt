@@ -20,7 +20,7 @@ use std::alloc::Global;
 /// token of the next page and the format number. They also say if there were rows.
 #[derive(Drop)]
 pub struct PagesRead {
-    /// The token of the next page. It is empty after the last page.
+    /// The token of the next page. It is empty before the first page and after the last page.
     pub token: Vec<u8>,
     /// The format number in the last row of the table `meta` that was read, or `None` if no such row was read
     /// yet.
@@ -149,13 +149,15 @@ fn put_items<S: Alter>(
     Ok(())
 }
 
-/// Puts the rows of a page into the tables of a transaction, in the order of the page. Sets the token, the
-/// format and `has_rows` of `notes`. After an error, the transaction may have some of the rows.
+/// Puts the rows of a page into the tables of a transaction, in the order of the page. Updates `notes`: the
+/// token becomes the token in the page, or empty if the page has none. After an error, the transaction may
+/// have some of the rows.
 ///
 /// # Errors
 ///
-/// If the page is malformed, if the tables cannot have its rows together with the earlier rows, or if memory
-/// is refused.
+/// - the page is malformed, or the tables cannot have one of its rows
+/// - the database refuses a row, for example because an earlier row has its number
+/// - memory is refused
 pub fn put_page<S: Alter>(
     alloc: Global,
     tx: &mut Transaction<'_, S>,

@@ -27,8 +27,8 @@ pub trait Peer {
     /// Sends a frame and waits for the reply.
     ///
     /// If the frame requests a change, a reply with status 0 means that the peer made the change. Another
-    /// status means that the peer did not make it. Without a reply, the change may or may not have been made:
-    /// a stop leaves the State with the change or without it.
+    /// status means that the peer did not make it. Without a reply, the peer may have made the change or not:
+    /// a stop leaves a State that it could also have left before the exchange, or the State with the change.
     fn exchange(&mut self, alloc: Global, frame: &[u8]) -> Received
         ensures answers { Answers (model self.old) (model self.new) frame.now result }
         ensures asked { exchanged self.old self.new frame.now result };

@@ -43,7 +43,7 @@ pub fn is_unanswered(received: &Received) -> bool
     }
 }
 
-/// Counts of the exchanges of a [`Line`].
+/// The counts that a [`Line`] keeps: of all its exchanges, and of the exchanges that got no answer.
 #[derive(Clone, Copy, Debug)]
 pub struct Exchanges {
     /// The number of exchanges, with and without an answer.

@@ -206,9 +206,9 @@ fn put_capacity(out: &mut Vec<u8>, available: i64, maximum: Option<i64>) -> Resu
 }
 
 // Appends a response as lines, one line for each part of the response. A text is one word, a size is a number
-// of bytes, and an absent part is `-`. Appends nothing for the responses of DeleteVolume,
-// ControllerUnpublishVolume and ControllerModifyVolume, which have no parts. If memory is refused, the vector
-// may contain some of the lines.
+// of bytes, and an absent part is `-`. But an empty token of a listing has no line. Appends nothing for the
+// responses of DeleteVolume, ControllerUnpublishVolume and ControllerModifyVolume, which have no parts. If
+// memory is refused, the vector may contain some of the lines.
 pub(crate) fn put_lines(out: &mut Vec<u8>, response: &Response) -> Result<(), AllocError>
     ensures { OnOk result (out.new.items ≡ out.old.items ++ lines response.now) }
 {

@@ -24,9 +24,10 @@ const _: () = prove!(PIECE_BYTES == 4096);
 pub struct ReceivedReply {
     /// The gRPC status code. It is 0 (OK) if the call succeeded.
     pub status: u8,
-    /// The reason why the call was refused: at most 1,024 bytes, each from 0x20 to 0x7E.
+    /// The reason why the call was refused: at most 1,024 bytes, each from 0x20 to 0x7E. It is empty if the
+    /// status is 0.
     pub text: Vec<u8>,
-    /// The bytes of the response message, at most 4,194,304.
+    /// The bytes of the response message, at most 4,194,304. It is empty if the status is not 0.
     pub body: Vec<u8>,
 }
 
@@ -104,8 +105,8 @@ fn gather<R: Read>(framer: &mut ReplyFramer, reader: &mut R) -> io::Result<()>
 }
 
 /// Reads the first reply of the input. Each read takes at most 4,096 bytes. Nothing is read after the read
-/// that completes the reply. The call makes at most 4,194,312 reads, which is the number of bytes of the
-/// longest reply.
+/// that completes the reply or shows that it is malformed. The call makes at most 4,194,312 reads, which is
+/// the number of bytes of the longest reply.
 pub fn receive<R: Read>(alloc: Global, reader: &mut R) -> Received
     ensures { Receives (R.remaining reader.old) (R.remaining reader.new) result }
 {

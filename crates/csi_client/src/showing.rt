@@ -21,7 +21,8 @@ use pbmessage::DecodeFault;
 use std::alloc::Global;
 use std::io::{self, Read, Write};
 
-// The greatest number of reads in one run.
+// The greatest number of reads in one run. With this limit a run takes fewer than 2^63 bytes, as
+// `ReplyFramer::feed` requires.
 const MAX_READS: u64 = 1 << 32;
 
 /// The way in which a run of [`show_all`] ended.
@@ -30,7 +31,8 @@ pub enum ShowEnd {
     /// The input ended after a complete reply, or was empty, and all replies were shown. The value is true if
     /// a reply had a status other than 0.
     Done(bool),
-    /// A reply of the stream is malformed, with this fault. All replies before it were shown.
+    /// A reply of the stream is malformed, or the input ended inside a reply. The value is the fault. All
+    /// replies before this reply were shown.
     Malformed(ReplyFault),
     /// The body of a reply is not a response of the method. All replies before this reply were shown, and
     /// also the first line of this reply.
@@ -40,7 +42,8 @@ pub enum ShowEnd {
     /// A write or a flush failed in a reply. All replies before this reply were shown. Of the lines of this
     /// reply, a part was shown, which may be empty or complete.
     WriteFailed,
-    /// Memory was refused for the buffer of frames, or for the lines of a reply.
+    /// Memory was refused. Either it was memory for the buffer of frames, and nothing was read. Or it was
+    /// memory for the lines of a reply, and all replies before this reply were shown.
     NoMemory,
 }
 
@@ -88,7 +91,8 @@ impl Printer {
         }
     }
 
-    // Writes the lines that are in the buffer.
+    // Writes the lines that are in the buffer, and flushes the writer. After an error, a prefix of the lines
+    // was written, which may be empty or complete.
     fn write_lines<W: Write>(&self, writer: &mut W) -> io::Result<()>
         ensures all { OnOk result (Appends (W.contents writer.old)
             (W.contents writer.new) self.now.lines.items) }

@@ -14,7 +14,7 @@ use csi_types::Items;
 /// a configuration. Code that proves that the parts have no fault can make one directly.
 #[derive(Debug)]
 pub struct Config {
-    /// The name and the version of the plugin.
+    /// The name and the version that GetPluginInfo returns.
     pub plugin: Plugin,
     /// The default size and the greatest size of a volume, in bytes.
     pub sizes: Sizes,
@@ -71,7 +71,7 @@ impl Config {
         })
     }
 
-    /// Returns the name and the version of the plugin.
+    /// Returns the plugin: the name and the version that GetPluginInfo returns.
     pub fn plugin(&self) -> &Plugin
         ensures { result.now ≡ self.now.plugin }
     {

@@ -95,7 +95,7 @@ impl fmt::Display for Key {
     }
 }
 
-/// The rule that a key or its value breaks.
+/// The rule that a key or its value breaks. Its `Display` follows the key in a message, such as `is missing`.
 #[derive(Clone, Copy, Debug, Error)]
 pub enum KeyRule {
     /// The key is required, but the section does not have it.

@@ -1,4 +1,4 @@
-//! Finds all faults of a configuration at once.
+//! Finds the faults of all parts of a configuration at once.
 
 use crate::config_file::{ConfigError, Key, KeyRule, Keys, Section, element};
 use csi_config::{
@@ -146,9 +146,10 @@ impl Faults {
         }
     }
 
-    // Adds the faults of one pool. `number` is the number of the pool, counted from 1. `names` has the names
-    // of the earlier pools, and the call adds the pool's name. Returns the bytes of the pool, or 0 if they
-    // cannot be read.
+    // Adds the faults of one pool: the faults of its keys, the first rule that the pool breaks alone, and a
+    // name that an earlier pool has. `number` is the number of the pool, counted from 1. `names` has the
+    // names of the earlier pools, and the call adds the pool's name. Returns the bytes of the pool, or 0 if
+    // they cannot be read.
     fn add_pool(
         &mut self,
         number: usize,
@@ -283,9 +284,11 @@ impl Faults {
     }
 }
 
-/// Returns all faults of a document that [`read_config`](crate::read_config) refuses: the faults of keys, of
-/// each pool and each node, and of all pools or all nodes together. If an element of `pool` or `node` is not
-/// a table, the elements after it are not judged. The list is empty if the bytes are not a TOML document.
+/// Returns the faults of a document that [`read_config`](crate::read_config) refuses: the faults of keys, of
+/// each pool and each node, and of all pools or all nodes together. If one pool breaks several rules, only
+/// the first of them is reported, and a repeated name. If an element of `pool` or `node` is not a table, the
+/// elements after it are not judged. The list is empty if the document has no fault, or if the bytes are not
+/// a TOML document.
 ///
 /// # Errors
 ///

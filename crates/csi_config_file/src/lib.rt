@@ -1,5 +1,5 @@
 //! Reads a configuration from a TOML document. [`read_config`] returns the configuration or its first fault,
-//! [`config_faults`] all of its faults, and [`unknown_keys`] the keys that are not known.
+//! [`config_faults`] the faults of all its parts, and [`unknown_keys`] the keys that are not known.
 #![tactic(auto)]
 
 mod config_file;

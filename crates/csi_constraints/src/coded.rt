@@ -14,7 +14,7 @@ use sqlite::{Error, Row};
 use std::alloc::Global;
 
 /// Decodes the capability keys in column `at`, counted from 0. Returns `None` if the value in the column is
-/// not the canonical bytes of capabilities.
+/// not the canonical bytes of capabilities. Fails if memory is refused.
 pub(crate) fn keys_at(alloc: Global, row: &Row, at: usize) -> Result<Option<Items<CapKey>>, Error>
     ensures value { IfOk result (λ keys. keys ≡ keys_at at row.now) }
     ensures fits { IfOk result (λ keys. IfSome keys FitCaps) }
@@ -28,7 +28,7 @@ pub(crate) fn keys_at(alloc: Global, row: &Row, at: usize) -> Result<Option<Item
 }
 
 /// Decodes the capability key in column `at`, counted from 0. Returns `None` if the value in the column is
-/// not the canonical bytes of exactly one key.
+/// not the canonical bytes of exactly one key. Fails if memory is refused.
 pub(crate) fn key_at(alloc: Global, row: &Row, at: usize) -> Result<Option<CapKey>, Error>
     ensures value { IfOk result (λ key. key ≡ key_at at row.now) }
     ensures fits { IfOk result (λ key. IfSome key (λ k. FitCaps (k ∷ []))) }

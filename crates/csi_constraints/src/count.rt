@@ -9,7 +9,7 @@ use sqlite::{Error, Row};
 /// A fold that counts the rows that it takes.
 #[derive(Drop)]
 pub struct RowCount {
-    /// The number of rows, at most 2^64 - 1. Initially 0.
+    /// The number of rows so far, or 2^64 - 1 if there are more. Initially 0.
     pub rows: u64,
 }
 

@@ -54,7 +54,7 @@ pub struct TextSum {
     pub text: Vec<u8>,
     /// The amount that a row with the text adds.
     pub weight: Weight,
-    /// The sum of the rows so far, or 2^64 - 1 if the sum is greater.
+    /// The sum over the rows so far, or 2^64 - 1 if the sum is greater. Initially 0.
     pub sum: u64,
 }
 

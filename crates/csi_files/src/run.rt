@@ -33,9 +33,9 @@ pub trait Observer {
     ///
     /// - before each page of volumes that it copies into memory. If the result is false, the volumes are not
     ///   copied.
-    /// - before a change that adds rows or sets parameters, if it is the first such change, if the memory of
-    ///   the next opening has grown by 256 KiB since the last result true, or if the last result was false.
-    ///   If the result is false, the change fails as if memory were refused.
+    /// - before a change that adds rows or sets parameters, unless `opening` is less than 256 KiB above its
+    ///   value at the last such call that returned true. If the result is false, the change fails as if
+    ///   memory were refused.
     ///
     /// An implementation must count limits at which the process is killed, such as the memory limit of a
     /// Linux control group. It need not count limits at which an allocation fails.

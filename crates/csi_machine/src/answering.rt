@@ -91,7 +91,7 @@ fn append_creation<K: Keeper>(
 ///
 /// The promises about the State hold while the keeper's doubt is 0, that is, while the keeper's store returns
 /// what was written to it. They hold for each State that the keeper may have, if this State meets the
-/// invariant. After an answer that changed the State, a stop leaves the changed State.
+/// invariant. After an answer that changed the State, a stop leaves no other State than the changed one.
 ///
 /// # Errors
 ///

@@ -19,7 +19,7 @@ use std::alloc::{AllocError, Global};
 /// The outcome of CreateVolume: a refusal, or a volume together with the segments of the volume's pool.
 #[derive(Drop)]
 pub(crate) enum Creation<'a> {
-    /// The request is refused for this reason.
+    /// The request is refused for this reason, and nothing changes.
     Refused(Reason),
     /// A volume with this name exists and is compatible with the request.
     Existing(Volume, &'a Map),

@@ -45,7 +45,7 @@ pub fn volume_at(
     }
 }
 
-/// Returns true if a volume has this number.
+/// Returns true if a volume has this number. Takes O(log n) time for n volumes, and copies nothing.
 #[tactic(auto, using(crate::specs::facts::Stored::get_stored))]
 pub fn has_volume(volumes: &BTreeMap<u64, StoredVolume>, number: u64) -> bool
     ensures { result ≡ is_some (get (volumes_of (as_volumes volumes.now.entries)) number) }

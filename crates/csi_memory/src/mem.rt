@@ -76,9 +76,9 @@ impl MemKeeper {
     }
 
     /// Adds a volume that already has a number, and sets the next number to this number plus 1. The volume's
-    /// number must not be below the next number, and no other volume may have its name. The volume is moved
-    /// into the rows. Only the name of the volume's pool is copied, and the name of the volume if another
-    /// name has the same hash.
+    /// number must be below 2^62 and not below the next number, and its size at most 2^62 bytes. No other
+    /// volume may have its name. The volume is moved into the rows. Only the name of the volume's pool is
+    /// copied, and the name of the volume if another name has the same hash.
     ///
     /// # Errors
     ///

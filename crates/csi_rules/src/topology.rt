@@ -6,9 +6,9 @@ ghost use Rattle.csi_rules.specs.Topology.{serves, is_reachable};
 
 use csi_types::{Map, Requirement, is_within};
 
-/// Returns true if a pool with these segments serves `term`, a topology of a request. It serves the topology
-/// if the segments contain the topology, or the topology contains the segments. The case of ASCII letters in
-/// keys does not count.
+/// Returns true if a pool with these segments serves `term`, a topology of a request. The pool serves `term`
+/// if the segments contain all of `term`, or `term` contains all of the segments. The case of ASCII letters
+/// in keys does not count.
 pub fn serves(segments: &Map, term: &Map) -> bool
     ensures { result ≡ serves segments.now term.now }
 {

@@ -6,9 +6,10 @@ use envelope::FrameFault;
 /// answered.
 #[derive(Clone, Copy, Debug, PartialEq, Eq)]
 pub enum RunEnd {
-    /// The input ended after a complete frame, and all calls were answered.
+    /// The input ended after a complete frame, or had no bytes. All calls were answered.
     Done,
-    /// A frame of the stream is malformed. All calls before it were answered, and then the frame was refused.
+    /// A frame of the stream is malformed, or the input ended inside a frame. All calls before this frame
+    /// were answered, and then the frame was refused.
     Malformed(FrameFault),
     /// A read failed. All calls whose frames were complete were answered.
     ReadFailed,

@@ -1,4 +1,4 @@
-//! A server that answers only the two calls that identify a plugin.
+//! A server that answers only two calls of the Identity service: Probe and GetPluginInfo.
 
 ghost use Rattle.std.specs.Prelude.{◌≡◌, ◌≤◌, ℕ, false, List, length, None, Ok, IfOk};
 ghost use Rattle.std.specs.Io.KnownBytes.{Consumes, IsAtEnd, Keeps};

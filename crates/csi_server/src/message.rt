@@ -36,7 +36,8 @@ pub(crate) fn read_message(
     }
 }
 
-/// Returns the answer that refuses a call for this reason.
+/// Returns the refusal of a call for this reason, as an error. Its reply has the reason's status code and
+/// text.
 pub(crate) fn refuse(reason: Reason) -> CallResult
     ensures answered { (buffer : List ℕ) → reply_of result buffer ≡ refused reason }
     ensures room { (buffer : List ℕ) → HoldsBody result buffer }

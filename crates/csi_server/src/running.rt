@@ -13,7 +13,8 @@ use frames_core::Framer;
 use std::alloc::Global;
 use std::io::{Read, Write};
 
-// The greatest number of reads in one run.
+// The greatest number of reads in one run. With this limit a run takes fewer than 2^63 bytes, as
+// `Framer::feed` requires.
 const MAX_READS: u64 = 1 << 32;
 
 // The greatest number of bytes that one read takes.
@@ -87,7 +88,8 @@ fn answer_piece<C, S: Service<C>, W: Write>(
 /// memory for a body is refused, only that call is refused.
 ///
 /// The clause `serves` holds if `doubt`, a number in the model of the service, is 0 at the end. The clause
-/// `writes` holds for any service: one valid reply of the envelope is written for each call.
+/// `writes` holds for any service: one valid reply of the envelope is written for each call. If a write
+/// fails, the last reply may be incomplete.
 ///
 /// # Not promised
 ///
@@ -150,7 +152,8 @@ pub fn run_service<C, S: Service<C>, R: Read, W: Write>(
     RunEnd::TurnsSpent
 }
 
-// Refuses a malformed frame, which ends the run.
+// Writes the reply that refuses a malformed frame, and returns the end of the run: `Malformed`, or
+// `WriteFailed` if the reply cannot be written.
 fn refuse<W: Write>(fault: &FrameFault, writer: &mut W) -> RunEnd
     ensures { Refuses fault.now (W.contents writer.old) (W.contents writer.new) result }
 {

@@ -103,12 +103,13 @@ impl<K: Keeper> Service<Config> for K {
 /// may have had at the start, if this State meets the invariant and the keeper's `doubt` is 0 at the end. It
 /// also says that the keeper's count of refusals rose by 1 for each call that was refused by the store or
 /// because the store is down. The count is at most 2^64 - 1. If a stop at the start could leave only the
-/// State at the start, a stop at the end leaves the State at the end, or a State that
+/// State at the start, a stop at the end leaves no other State than the State at the end and the States that
 /// [`pending`](crate::laws::pending) allows.
 ///
 /// The clause `writes` has no premise: one valid reply of the envelope is written for each call that was
-/// read. It also says that a fault or a failed write ends the reading: the malformed frame, or the call
-/// without a reply, ends within the last 4,096 bytes that are read.
+/// read. If a write fails, the last reply may be incomplete. The clause also says that a fault or a failed
+/// write ends the reading: the malformed frame, or the call without a reply, ends within the last 4,096 bytes
+/// that are read.
 ///
 /// # Not promised
 ///

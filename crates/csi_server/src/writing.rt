@@ -34,7 +34,8 @@ fn set_head(reply: &mut Vec<u8>)
 }
 
 /// Writes the reply to a call and flushes the writer. The head and the body are passed to the writer
-/// together, so they go out in one write if the writer takes all of their bytes.
+/// together, so they go out in one write if the writer takes all of their bytes. After an error, a prefix of
+/// the reply was written, which may be empty or complete.
 #[inline(always)]
 pub(crate) fn put_reply<W: Write>(
     writer: &mut W,
@@ -57,7 +58,8 @@ pub(crate) fn put_reply<W: Write>(
     }
 }
 
-/// Writes the reply that refuses a malformed frame, and flushes the writer.
+/// Writes the reply that refuses a malformed frame, and flushes the writer. After an error, a prefix of the
+/// reply was written, which may be empty or complete.
 pub(crate) fn put_fault<W: Write>(writer: &mut W, fault: &FrameFault) -> io::Result<()>
     ensures all { OnOk result (Appends (W.contents writer.old) (W.contents writer.new)
         (fault_frame fault.now)) }

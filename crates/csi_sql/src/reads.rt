@@ -18,7 +18,7 @@ use crate::statements::select::{Select, select_rows};
 use crate::values::{first, number_at};
 use sqlite::{Alter, Error, Row};
 
-/// Reads the number that the next volume gets, as a row with one column.
+/// Reads the number that the next volume gets, as a row with one column. Fails if `meta` has no row.
 pub fn next_number<S: Alter>(conn: &mut IdleConnection<S>) -> Result<Row, Error>
     ensures { ReadsOnly S.Store conn.old conn.new IsNext HasNoNext result }
 {

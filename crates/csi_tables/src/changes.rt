@@ -1,9 +1,9 @@
 //! Makes each change over a connection, and keeps the totals in memory in step with the tables.
 //!
 //! No transaction may be open on the connection before a call, and no transaction is open after it. After
-//! `Ok` the change is made and committed. After a fault the State is unchanged, but a stop may leave the
-//! State with the change. The totals are updated only after the change is committed, and the update takes no
-//! memory.
+//! `Ok` the change is made and committed. A change fails if the database refuses it or memory is refused.
+//! After a fault the State is unchanged, but a stop may leave the State with the change. The totals are
+//! updated only after the change is committed, and the update takes no memory.
 //!
 //! A change is one transaction, except that removing a volume and changing parameters take two. The first
 //! transaction reads the row of the volume and leaves the State unchanged. A removal needs the name of the
@@ -37,7 +37,7 @@ use std::slice::from_ref;
 pub(crate) const NUMBERS: u64 = 1 << 63;
 
 // Reserves the memory that counting one more volume in a pool needs. Fails with `Refused` if the pool's total
-// cannot count the volume.
+// cannot count the volume: the number of volumes would reach 2^64, or their bytes 2^128.
 fn reserve(alloc: Global, totals: &mut Totals, pool: &Text, bytes: u64) -> Result<(), TablesError>
     ensures room { OnOk result (HasRoom (total_of totals.old pool.now) bytes) }
     ensures reserved { OnOk result (IsReserved totals.new pool.now) }

@@ -1,4 +1,4 @@
-//! Decodes the capabilities and parameters in a column.
+//! Decodes the capabilities and parameters in a column. The functions also fail if memory is refused.
 
 ghost use Rattle.std.specs.Prelude.{◌≡◌, ◌≢◌, List, Some, Ok, IfOk, IsErrOf, map};
 ghost use Rattle.csi_types.specs.Maps.{TextMap};

@@ -15,7 +15,8 @@ use std::marker::Model;
 pub enum TablesFault {
     /// Memory for the call was refused.
     NoMemory,
-    /// The database refused the call, or a row has values that this program does not write.
+    /// The database refused the call, or a row has values that this program does not write. A change is also
+    /// refused if no row can have its number, or if the total of a pool cannot count the volume.
     Refused,
 }
 
@@ -46,7 +47,8 @@ impl TablesError {
         }
     }
 
-    /// Returns the error for a row with values that this program does not write.
+    /// Returns the fault `Refused` without an error of the database. The cause is a row that cannot be
+    /// decoded, or a change whose values the tables or the totals cannot have.
     pub(crate) fn refused() -> TablesError
         ensures { result ≡ Refused }
     {

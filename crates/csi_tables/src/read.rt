@@ -1,8 +1,9 @@
 //! Makes each read over a connection, and returns values of the State.
 //!
-//! If a row has values that this program does not write, the read is refused. After the rows were checked
-//! when the tables were opened, a read finds such values only if the disk returns other bytes than were
-//! written.
+//! A volume's number in the arguments of a read must be below 2^63. A read fails if the database refuses it
+//! or memory is refused. If a row has values that this program does not write, the read is refused. After the
+//! rows were checked when the tables were opened, a read finds such values only if the disk returns other
+//! bytes than were written.
 
 ghost use Rattle.std.specs.Prelude.{◌≡◌, ◌<◌, ◌^◌, IfOk, is_some, option_map};
 ghost use Rattle.std.specs.FinMap.{get};
@@ -142,8 +143,8 @@ pub(crate) fn page<S: Alter>(
 }
 
 /// Returns the first `count` volumes whose number is greater than `after`, in rising order of their numbers.
-/// Each volume comes with the ids of its nodes in byte order. The whole page is one read. The rows need not
-/// have been checked before.
+/// `after` must be below 2^63. Each volume comes with the ids of its nodes in byte order. The whole page is
+/// one read. The rows need not have been checked before.
 ///
 /// # Errors
 ///

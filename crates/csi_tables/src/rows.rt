@@ -1,4 +1,5 @@
-//! Decodes volumes, attachments and numbers from the rows of a SELECT.
+//! Decodes volumes, attachments and numbers from the rows of a SELECT. The functions also fail if memory is
+//! refused.
 
 ghost use Rattle.std.specs.Prelude.{◌≡◌, ◌≢◌, ℕ, List, [], ◌∷◌, Option, Some, IfOk, IfSome, IsErrOf, IsUtf8, map, option_map};
 ghost use Rattle.std.specs.List.{AllByRecursion};

@@ -22,12 +22,13 @@ use std::cell::Cell;
 ///
 /// - Each change is made in one transaction. Before the change, removing a volume and changing parameters
 ///   read the row of the volume in a further transaction. A stop leaves the whole change or nothing of it.
-///   After `Ok` a stop leaves the State with the change. After a refusal a stop leaves a State that it could
-///   also have left before the call, or the State with the change.
+///   After `Ok` a stop leaves no other State than the State with the change. After a refusal a stop leaves a
+///   State that it could also have left before the call, or the State with the change.
 /// - After a change fails, also for lack of memory, each further call fails with `Down`. A failed read has no
 ///   effect on later calls.
 /// - `Refused` means that the database refused the call, for example after a fault of the disk, or that a row
-///   cannot be decoded. It never means that memory was refused.
+///   cannot be decoded. A change is also refused if no row can have its number, or if the total of a pool
+///   cannot count the volume. `Refused` never means that memory was refused.
 /// - The keeper has the totals of the pools outside the tables, so reading them needs no transaction.
 /// - No call changes the connection's limit on steps. A read of a number of 2^63 or above, which no row has,
 ///   takes no memory.
@@ -72,9 +73,9 @@ impl<S: Alter> Tables<S> {
         }
     }
 
-    /// Returns the database's error for the first call that the database refused, such as a full disk.
-    /// Returns `None` if the database refused no call. Lack of memory, and a row with values that this
-    /// program does not write, are not refusals of the database.
+    /// Returns the first error with which the database refused a call, such as a full disk or a value that
+    /// does not have the type of its column. Returns `None` if there was no such error. Lack of memory, and
+    /// bytes of a column that cannot be decoded, are not errors of the database.
     pub fn cause(&self) -> Option<Error> {
         self.cause.get()
     }

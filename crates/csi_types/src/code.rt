@@ -17,8 +17,8 @@ pub enum Code {
     NotFound = 5,
     /// The volume or the attachment exists already, and is not compatible with the request.
     AlreadyExists = 6,
-    /// No pool has room for the volume, the node is full, the reply is too large, or another limit is
-    /// reached.
+    /// No pool has room for the volume, the node is full, the reply is too large, there are 100,000 volumes,
+    /// or the volume numbers are used up.
     ResourceExhausted = 8,
     /// The volume is published to a node. So it cannot be deleted, or cannot be published to another node.
     FailedPrecondition = 9,

@@ -9,7 +9,8 @@ use crate::map::Map;
 use crate::text::Text;
 use std::alloc::{AllocError, Global};
 
-/// Copies a text. Fails if memory is refused.
+/// Returns a `Text` with the bytes of `text`. Only a text of more than 16 bytes needs memory. Fails if this
+/// memory is refused.
 pub fn copy_text(alloc: Global, text: &str) -> Result<Text, AllocError>
     ensures { IfOk result (λ copy. copy ≡ text.now) }
 {

@@ -52,7 +52,7 @@ impl<T> Items<T> {
         Self { vec }
     }
 
-    /// Returns the vector that contains the values.
+    /// Returns the values as a vector, without allocating.
     pub fn into_vec(self) -> Vec<T>
         ensures { result.items ≡ self }
     {

@@ -76,13 +76,14 @@ pub enum Reason {
     NodeFull,
     /// The volume does not have the requested capability.
     CapabilityNotOfVolume,
-    /// `starting_token` is neither empty nor a number from 1 to below the next volume number.
+    /// `starting_token` is neither empty nor a number that is at least 1 and below the next volume number.
     BadToken,
     /// With the requested changes, the mutable parameters of the volume would have more than 4,096 bytes.
     MutableTooLarge,
     /// The body of the reply would be longer than 4,194,304 bytes.
     ReplyTooLarge,
-    /// Memory was refused while the call was executed.
+    /// Memory was refused while the call was decoded or executed. No change is visible, but a change of the
+    /// call may be visible after a restart.
     OutOfMemory,
     /// The store refused a read or a change of the call. No change is visible. But if the store refused a
     /// change, the change may be visible after a restart.

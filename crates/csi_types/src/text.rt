@@ -136,7 +136,7 @@ impl Text {
         }
     }
 
-    /// Returns the text as a `&str`.
+    /// Borrows the text as a `&str`, without copying it.
     pub fn as_str(&self) -> &str
         ensures bytes { result.now ≡ self.now }
         ensures utf8 { IsUtf8 self.now }

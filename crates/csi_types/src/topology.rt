@@ -31,10 +31,12 @@ const FEW_SEGMENTS: usize = 32;
 /// Each topology of the two lists is the map `segments`, field 1 of the message `Topology`.
 #[derive(Debug, Drop)]
 pub struct Requirement {
-    /// `requisite`, field 1: the volume must be accessible from at least one of these topologies.
+    /// `requisite`, field 1: the volume must be accessible from at least one of these topologies. An empty
+    /// list requires nothing.
     pub requisite: Items<Map>,
     /// `preferred`, field 2, in the order of preference: the volume is created in the first of these
-    /// topologies that a pool with room serves.
+    /// topologies that a pool with room serves. If no pool with room serves any of them, the requisite
+    /// topologies decide.
     pub preferred: Items<Map>,
 }
 

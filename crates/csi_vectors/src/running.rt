@@ -27,8 +27,8 @@ pub enum VectorsEnd {
     LinesSpent,
     /// A read of the vectors failed for a reason other than lack of memory.
     ReadFailed,
-    /// A write or a flush of a result failed, or a write was interrupted. The results of all earlier lines
-    /// were written. Of this result, a part was written, which may be empty or complete.
+    /// A write or a flush of a result failed, or a write was interrupted or took no byte. The results of all
+    /// earlier lines were written. Of this result, a part was written, which may be empty or complete.
     WriteFailed,
     /// Memory for the configuration, the buffer of the input, a line, a vector or a server was refused.
     NoMemory,
@@ -116,7 +116,8 @@ fn run_text<W: Write>(
     }
 }
 
-// Returns a line without its line end.
+// Returns a line without its line end. The last line of a text may have no line end, and is then returned
+// unchanged.
 fn without_end(line: &[u8]) -> &[u8]
     ensures { IsTextOf line.now result.now }
 {

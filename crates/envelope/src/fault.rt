@@ -29,7 +29,8 @@ pub trait Fault: Copy + Drop {
 
     ghost cut_at: { ℕ → Self };
 
-    /// Returns the kind of the frames in the stream.
+    /// Returns the kind of frame that the fault is about: a call, which a client sends, or a reply, which a
+    /// server sends.
     fn kind() -> FrameKind
         ensures { result ≡ kind };
 

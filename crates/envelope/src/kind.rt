@@ -14,9 +14,11 @@ use crate::limits::{
 /// body, in this order. A reply also begins with a status. So the same code reads both kinds.
 #[derive(Clone, Copy)]
 pub enum FrameKind {
-    /// Frames of calls. The text is the path of the method, and the body is the request message.
+    /// Frames of calls, which a client sends. The text is the path of the method, and the body is the request
+    /// message.
     Calls,
-    /// Frames of replies. A status comes before the length of the text, and the body is the response message.
+    /// Frames of replies, which a server sends. A status comes before the length of the text. The text is the
+    /// reason of a refusal, and the body is the response message.
     Replies,
 }
 
@@ -25,13 +27,15 @@ pub enum FrameKind {
 pub enum Part {
     /// The status of a reply is not one of the ten status codes.
     Status,
-    /// The length of the text is out of its range.
+    /// The length of the text is out of its range: 1 to 128 bytes in a call, 0 to 1,024 bytes in a reply. In
+    /// a reply with status 0 it must be 0.
     TextLength,
-    /// A byte of the text is out of its range.
+    /// A byte of the text is out of its range: 0x21 to 0x7E in a call, 0x20 to 0x7E in a reply.
     Text,
     /// The flag is not 0, the only value that it may have.
     Flag,
-    /// The length of the body is out of its range.
+    /// The length of the body is above its limit: 1,048,576 bytes in a call, and 4,194,304 bytes in a reply
+    /// with status 0. In any other reply it must be 0.
     BodyLength,
     /// The input ends before this frame is complete.
     Missing,
@@ -94,7 +98,8 @@ impl FrameKind {
         }
     }
 
-    /// Returns the greatest number of bytes before the body of a frame of this kind.
+    /// Returns the greatest number of bytes before the body of a frame of this kind: [`MAX_HEAD_BYTES`] or
+    /// [`MAX_REPLY_HEAD_BYTES`].
     pub fn most_head(self) -> usize
         ensures { result ≡ most_head self }
     {
@@ -104,7 +109,8 @@ impl FrameKind {
         }
     }
 
-    /// Returns the greatest number of bytes of a frame of this kind.
+    /// Returns the greatest number of bytes of a frame of this kind: [`MAX_FRAME_BYTES`] or
+    /// [`MAX_REPLY_BYTES`].
     pub fn most_frame(self) -> usize
         ensures { result ≡ most_frame self }
     {

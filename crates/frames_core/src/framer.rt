@@ -31,10 +31,12 @@ pub struct Cutter<F: Fault> {
     whole: bool,
 }
 
-/// Cuts a stream into calls. Its buffer has [`MAX_FRAME_BYTES`](envelope::MAX_FRAME_BYTES) bytes.
+/// Cuts a stream into calls, for a server. Its buffer has room for
+/// [`MAX_FRAME_BYTES`](envelope::MAX_FRAME_BYTES) bytes, the longest frame of a call.
 pub type Framer = Cutter<FrameFault>;
 
-/// Cuts a stream into replies. Its buffer has [`MAX_REPLY_BYTES`](envelope::MAX_REPLY_BYTES) bytes.
+/// Cuts a stream into replies, for a client. Its buffer has room for
+/// [`MAX_REPLY_BYTES`](envelope::MAX_REPLY_BYTES) bytes, the longest frame of a reply.
 pub type ReplyFramer = Cutter<ReplyFault>;
 
 impl<F: Fault> Model for Cutter<F> {
@@ -120,8 +122,8 @@ impl<F: Fault> Cutter<F> {
         }
     }
 
-    /// Ends the input. If a frame has begun and is not complete, the fault `EndOfInput` becomes known.
-    /// Otherwise nothing changes.
+    /// Ends the input. If a frame has begun and is not complete, and no fault is known, the fault
+    /// `EndOfInput` becomes known. Otherwise nothing changes.
     pub fn end(&mut self)
         ensures ends { IsCutShortAs F.kind self.old → self.new ≡ cut_with F.cut_at self.old }
         ensures kept { ¬ IsCutShortAs F.kind self.old → self.new ≡ self.old }
@@ -141,9 +143,9 @@ impl<F: Fault> Cutter<F> {
         self.known.is_some() || self.whole_frame().is_some()
     }
 
-    /// Takes bytes of the piece up to the end of one frame, or up to the byte that makes a fault known.
-    /// Returns the number of bytes that were taken. If a frame is complete or a fault is known already, takes
-    /// no bytes.
+    /// Takes bytes of the piece up to the end of one frame, or up to the byte that makes a fault known. If
+    /// the piece has neither, takes all of it. Returns the number of bytes that were taken. If a frame is
+    /// complete or a fault is known before the call, takes no bytes.
     ///
     /// The stream must have fewer than 2^63 bytes: the bytes that were taken since its start, and the bytes
     /// of the piece.

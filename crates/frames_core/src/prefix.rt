@@ -21,6 +21,7 @@ pub(crate) struct Prefix {
 }
 
 /// Takes bytes of the piece up to the end of one frame, or up to the byte that breaks a rule of the envelope.
+/// If the piece has neither, takes all of it.
 ///
 /// First appends the bytes that may belong to the head to the buffer and looks at them. If the frame ends in
 /// these bytes, or one of them breaks a rule, removes the bytes after that place. Otherwise appends the bytes

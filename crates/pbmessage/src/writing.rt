@@ -228,7 +228,8 @@ pub fn put_map(out: &mut Vec<u8>, number: u32, map: &Map) -> Result<(), AllocErr
     Ok(())
 }
 
-/// Appends a map with one entry as field `number`, without copying the key or the value.
+/// Appends a map with one entry as field `number`. The caller needs no `Map`, which would own copies of the
+/// key and the value.
 #[tactic(auto, using(crate::proofs::EntryLemmas::one_entry, crate::proofs::EntryLemmas::one_entry_fits), unfolding(crate::specs::Canon::row_fields))]
 pub fn put_single(out: &mut Vec<u8>, number: u32, key: &str, value: &str) -> Result<(), AllocError>
     requires { (1 ≤ number) × (number < 2 ^ 29) }

@@ -40,7 +40,7 @@ impl From<AllocFailed<u8>> for NotationFault {
     }
 }
 
-// A part of a text in the notation: one byte, text, enclosed text or count.
+// A part of a text in the notation: a space, a byte, a text, an enclosed text or a count.
 #[derive(Clone, Copy)]
 enum Part<'t> {
     Space,
@@ -219,7 +219,7 @@ fn enclosed(opening: u8, text: &[u8]) -> Option<(Part<'_>, &[u8])> {
     Some((part, rest))
 }
 
-// Returns the value of a hexadecimal digit in lower case.
+// Returns the value of a hexadecimal digit in lower case, or `None` for any other character.
 fn digit(character: u8) -> Option<u8>
     ensures { IfSome result (λ value. value < 16) }
 {

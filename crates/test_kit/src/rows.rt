@@ -27,7 +27,7 @@ pub trait AnswerRow {
     ///
     /// # Errors
     ///
-    /// If the row cannot be answered.
+    /// If the row cannot be answered. The fault is then written in place of the answer.
     fn answer_row(&mut self, rt: &HostRuntime, row: &str) -> Result<RowAnswer, RowFault>;
 }
 

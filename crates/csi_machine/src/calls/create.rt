@@ -164,8 +164,12 @@ fn create_fresh<'a, K: Keeper>(
 /// exists and is not compatible, the request is refused. If no volume has the name, the plan creates a volume
 /// in the chosen pool.
 ///
-/// A new volume is refused in the first of these cases that applies: the size is out of range, there are too
-/// many volumes, the numbers are used up, or no pool has room.
+/// A new volume is refused in the first of these cases that applies: the size is out of range, there are
+/// 100,000 volumes, the numbers are used up, or no pool has room.
+///
+/// # Errors
+///
+/// Returns the fault of the keeper, or `StoreFault::NoMemory` if memory is refused.
 pub(crate) fn create<'a, K: Keeper>(
     alloc: Global,
     config: &'a Config,

@@ -117,6 +117,11 @@ fn append_after<K: Keeper>(
 /// `max_entries` is 0 or below, only the limit of 100 holds. The request is refused if its token is not valid
 /// or the page is too large for a reply. If more volumes follow, the token of the next page is the number of
 /// the last volume on this page. This volume may be deleted before the client asks for the next page.
+///
+/// # Errors
+///
+/// Returns the fault of the keeper, or `StoreFault::NoMemory` if memory is refused. `out` is unchanged after
+/// an error and after a refusal.
 #[inline(always)]
 pub(crate) fn append_page<K: Keeper>(
     alloc: Global,

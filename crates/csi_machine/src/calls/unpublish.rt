@@ -54,8 +54,8 @@ fn detach(
     )
 }
 
-/// Plans ControllerUnpublishVolume. If the volume does not exist or is not published to the node, the answer
-/// is the same as for a volume that is unpublished.
+/// Plans ControllerUnpublishVolume. An empty node id means all nodes. If the volume does not exist or is not
+/// published to the node, nothing changes, and the answer is the same as for a volume that is unpublished.
 impl Planned for Unpublish {
     ghost planned = { λ config s r. unpublish s r };
 

@@ -31,7 +31,7 @@ pub fn update_format<S: Alter>(tx: &mut Transaction<'_, S>) -> Changed
     tx.execute("UPDATE meta SET format_no = 2", &[]).and(Ok(()))
 }
 
-/// Reads the number that the next volume gets, as a row with one column.
+/// Reads the number that the next volume gets, as a row with one column. Fails if `meta` has no row.
 pub(crate) fn select_next<S: Alter>(tx: &mut Transaction<'_, S>) -> Result<Row, Error>
     ensures same_reference { tx.new.conn.ghost_name ≡ tx.old.conn.ghost_name }
     ensures selects { Selects S.Store tx.old.conn.now tx.new.conn.now IsNext HasNoNext result }

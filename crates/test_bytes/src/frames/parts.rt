@@ -6,7 +6,7 @@ use std::alloc::Global;
 use std::str;
 use test_kit::{RowFault, bytes_of, bytes_text, put_part};
 
-/// The kind of the frames in a stream: calls or replies.
+/// The side of a connection whose frames a row has: a client sends calls, and the server sends replies.
 #[derive(Clone, Copy)]
 pub(crate) enum FrameKind {
     Calls,

@@ -35,8 +35,8 @@ impl Watch {
     }
 }
 
-/// The bytes of a stream, and how a reader returns them: in pieces of a fixed size, with at most one failing
-/// read.
+/// The bytes of a stream, and how a reader returns them: in pieces up to a greatest size, which may differ
+/// for the first piece, and with at most one failing read. Also says after how many bytes a fault is known.
 #[derive(Clone, Copy)]
 pub(crate) struct Pieces<'a> {
     bytes: &'a [u8],
