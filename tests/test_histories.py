@@ -74,7 +74,8 @@ class ClientsTest(RowTest):
         self.files = self.enterContext(tempfile.TemporaryDirectory(dir=memory))
 
     def orders(self, fronts, count):
-        """Returns the orders of histories, with None for a history without an order."""
+        """Records `count` new histories, and searches each for an order of its calls. Returns the orders,
+        with None for a history without an order."""
         self.addCleanup(fronts.end)
         return [order for _, _, order in histories(fronts, count)]
 
