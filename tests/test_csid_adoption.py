@@ -11,7 +11,8 @@ from tests.support.rows import CsidTest, each
 from tests.support.tables import (A, BESIDE, BLOCK_CAPS, BYTES, CAP, CAPS, FIRST_FORMAT, KIND, LARGE_CAPS,
                                   MANY, MIB, NAME, NEXT_9, NODE, NO_DATABASE, NO_META, NUMBER, OTHER_TABLES,
                                   OWNER, PARAMS, PLACES, POOL, READONLY, SHARED_CAPS, Tables, attachment,
-                                  attachment_fault, block, cell, next_is, pairs, volume, volume_fault)
+                                  attachment_fault, attachment_row_fault, block, cell, next_is, pairs,
+                                  volume, volume_fault)
 from tests.vectors.rows import Plain
 
 
@@ -21,7 +22,7 @@ GOOD = volume(1) + volume(2, "'b'") + volume(3, "'c'")
 TURNS = [
     (volume(10, "'k'", caps="'caps'"), "DELETE FROM volumes WHERE number = 10", volume_fault(10, KIND)),
     ("INSERT INTO attachments (rowid, number, node, cap, readonly) VALUES (77, 1, 'n7', 'cap', 0);",
-     "DELETE FROM attachments WHERE node = 'n7'", "row 77 of attachments: " + KIND),
+     "DELETE FROM attachments WHERE node = 'n7'", attachment_row_fault(77, KIND)),
     (next_is(0), next_is(50), "the next number is not 1 to 2^62"),
     (volume(60, "'n'"), "DELETE FROM volumes WHERE number = 60", volume_fault(60, NUMBER)),
     (volume(11, "''"), "DELETE FROM volumes WHERE number = 11", volume_fault(11, NAME)),

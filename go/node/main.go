@@ -8,13 +8,14 @@ import (
 	"flag"
 	"fmt"
 	"io"
-	"net"
 	"os"
 	"os/signal"
 	"syscall"
 
 	"google.golang.org/grpc"
 	"google.golang.org/grpc/status"
+
+	"fomaheti/sockets"
 )
 
 // Exit statuses. A refused call is a failure.
@@ -93,7 +94,7 @@ func serve(args []string, out io.Writer) error {
 	// Handled before the socket exists: a program that finds the socket may already send a signal.
 	ctx, cancel := signal.NotifyContext(context.Background(), syscall.SIGTERM, syscall.SIGINT)
 	defer cancel()
-	listener, err := listen(opts.listen)
+	listener, err := sockets.Listen(opts.listen)
 	if err != nil {
 		return err
 	}
@@ -108,23 +109,4 @@ func serve(args []string, out io.Writer) error {
 		return err
 	}
 	return nil
-}
-
-// listen makes a socket. It replaces the socket of an earlier process if no process listens on it.
-// Any other file with this path is an error.
-func listen(path string) (net.Listener, error) {
-	if file, err := os.Lstat(path); err == nil && file.Mode()&os.ModeSocket != 0 {
-		conn, err := net.Dial("unix", path)
-		if err == nil {
-			conn.Close()
-			return nil, fmt.Errorf("%s: somebody answers on it already", path)
-		}
-		if !errors.Is(err, syscall.ECONNREFUSED) {
-			return nil, err
-		}
-		if err := os.Remove(path); err != nil {
-			return nil, err
-		}
-	}
-	return net.Listen("unix", path)
 }

@@ -443,8 +443,10 @@ func TestSocket(t *testing.T) {
 	}
 	s.wantEndAtOnce(t)
 	s.writes(t, "node.sock")
-	if listener, err := listen(s.at("node.sock")); !errors.Is(err, syscall.EADDRINUSE) {
-		t.Errorf("got %v, error %v, want %v", listener, err, syscall.EADDRINUSE)
+	log.Reset()
+	if status := run(s.words, &out, &log); status != exitFailure ||
+		log.String() != "node-plugin: "+s.at("node.sock")+": a file exists there that is no socket\n" {
+		t.Errorf("got %d, %q, want another file", status, log.String())
 	}
 	s.finds(t, "node.sock")
 }

@@ -60,6 +60,10 @@ def volume_fault(number, why):
     return "volume %d: %s" % (number, why)
 
 
+def attachment_row_fault(rowid, why):
+    return "row %d of attachments: %s" % (rowid, why)
+
+
 def attachment_fault(number, node, why):
     return "volume %d at node %s: %s" % (number, node, why)
 

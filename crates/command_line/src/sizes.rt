@@ -13,7 +13,7 @@ struct Unit {
     half: u64,
 }
 
-// The units in which sizes are shown, from the greatest to the least.
+// The units of sizes, from the greatest to the least.
 const SHOWN: [Unit; 6] = [
     Unit {
         name: "EiB",

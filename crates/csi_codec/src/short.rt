@@ -29,8 +29,8 @@ const STATUS_BYTES: usize = 2;
 // heads and the empty status. So each length in the entry takes one byte.
 const SHORT_VOLUME: usize = 122;
 
-// Writes `bytes` into the buffer so that they end before the offset `end`. Returns the offset at which they
-// begin.
+// Writes `bytes` into the buffer so that they end before the offset `end`. Returns the offset of the first
+// byte.
 #[inline(always)]
 fn put_before(buffer: &mut [u8], end: usize, bytes: &[u8]) -> usize
     requires { (length bytes.now ≤ end) × (end ≤ length buffer.old) }
@@ -42,8 +42,8 @@ fn put_before(buffer: &mut [u8], end: usize, bytes: &[u8]) -> usize
     start
 }
 
-// Writes a varint into the buffer so that it ends before the offset `end`, and returns the offset at which it
-// begins. The last group of 7 bits is written first.
+// Writes a varint into the buffer so that it ends before the offset `end`, and returns the offset of its
+// first byte. The last group of 7 bits is written first.
 #[tactic(auto, using(crate::proofs::ShortLemmas::varint_one, crate::proofs::ShortLemmas::varint_more))]
 fn put_varint(buffer: &mut [u8], end: usize, number: u64) -> usize
     requires { (length (varint number) ≤ end) × (end ≤ length buffer.old) }
@@ -57,8 +57,8 @@ fn put_varint(buffer: &mut [u8], end: usize, number: u64) -> usize
     put_before(buffer, start, &[(number % 128) as u8 + 128])
 }
 
-// Writes the size field of a volume so that it ends before the offset `end`, and returns the offset at which
-// it begins. A size of 0 has no field, so nothing is written.
+// Writes the size field of a volume so that it ends before the offset `end`, and returns the offset of its
+// first byte. A size of 0 has no field, so nothing is written.
 #[inline(always)]
 fn put_size(buffer: &mut [u8], end: usize, bytes: u64) -> usize
     requires { (11 ≤ end) × (end ≤ length buffer.old) }
@@ -73,8 +73,8 @@ fn put_size(buffer: &mut [u8], end: usize, bytes: u64) -> usize
     put_before(buffer, start, &[8])
 }
 
-// Writes the id field of a volume so that it ends before the offset `end`, and returns the offset at which it
-// begins.
+// Writes the id field of a volume so that it ends before the offset `end`, and returns the offset of its
+// first byte.
 #[inline(always)]
 fn put_id(buffer: &mut [u8], end: usize, prefix: &str, number: u64) -> usize
     requires { (length prefix.now ≤ 16) × (38 ≤ end) × (end ≤ length buffer.old) }

@@ -18,7 +18,7 @@ pub struct Config {
     pub plugin: Plugin,
     /// The default size and the greatest size of a volume, in bytes.
     pub sizes: Sizes,
-    /// The pools, at least 1 and at most 16, in the order in which a new volume tries them.
+    /// The pools, at least 1 and at most 16. A new volume tries them in this order.
     pub pools: Items<Pool>,
     /// The nodes that volumes can be published to, at most 64.
     pub nodes: Items<Node>,
@@ -85,14 +85,14 @@ impl Config {
         &self.sizes
     }
 
-    /// Returns the pools, at least 1 and at most 16, in the order in which a new volume tries them.
+    /// Returns the pools, at least 1 and at most 16. A new volume tries them in this order.
     pub fn pools(&self) -> &[Pool]
         ensures { result.now ≡ self.now.pools }
     {
         self.pools.as_slice()
     }
 
-    /// Returns the nodes, at most 64, in the order in which the configuration names them.
+    /// Returns the nodes, at most 64, in the order of the configuration.
     pub fn nodes(&self) -> &[Node]
         ensures { result.now ≡ self.now.nodes }
     {
