@@ -7,7 +7,7 @@ import shlex
 from tests.support.csictl import (CONTROLLER, CREATE, EXISTS, IDENTITY, Line, READY, Shown, VERSION, VOL_1,
                                   call, ok, refusal, run, text)
 from tests.support.data import tables
-from tests.support.processes import TOP, small_memory
+from tests.support.processes import TOP, closed_pipe, small_memory
 from tests.support.rows import CsictlTest, each
 
 
@@ -86,6 +86,12 @@ class ShowTest(CsictlTest):
             with self.subTest(words=words), open("/dev/full", "wb") as full:
                 came = run([self.csictl, *words], input=READY if not words else b"", stdout=full)
                 self.assertEqual(came, (None, error, 5))
+
+    @each(["--help", "frame --help", "--version"])
+    def test_reader_of_help_that_goes_away_is_no_failure(self, words):
+        pipe = closed_pipe()
+        self.addCleanup(os.close, pipe)
+        self.assertEqual(run([self.csictl, *words.split()], stdout=pipe), (None, "", 0))
 
     def test_input_that_cannot_be_read_is_reported(self):
         folder = os.open(TOP, os.O_RDONLY)

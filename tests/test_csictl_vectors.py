@@ -45,8 +45,10 @@ class VectorsTest(CsictlTest):
         self.assertEqual(came, (None, "csictl: a write to standard output failed\n", 5))
 
     def test_missing_file_is_reported(self):
-        came = run([self.csictl, "vectors", self.path], input=b"")
-        self.assertEqual(text(came), ("", Line("csictl: " + self.path), 5))
+        for path, shown in (self.path, self.path), ("", "''"):
+            with self.subTest(path=shown):
+                came = run([self.csictl, "vectors", path], input=b"")
+                self.assertEqual(text(came), ("", Line("csictl: %s: " % shown), 5))
 
     def test_folder_is_reported(self):
         came = run([self.csictl, "vectors", self.folder], input=b"")

@@ -45,10 +45,14 @@ class ConfigTest(CsidTest):
         self.assertEqual(came, (b"", NO_MEMORY, 6))
 
     def test_path_that_is_no_file_is_refused(self):
-        for path, why in (self.path, NOT_THERE), (self.folder, "Is a directory (os error 21)"):
-            with self.subTest(why=why):
+        for path, shown, why in [
+            (self.path, self.path, NOT_THERE),
+            (self.folder, self.folder, "Is a directory (os error 21)"),
+            ("", "''", NOT_THERE),
+        ]:
+            with self.subTest(path=shown):
                 came = run([self.csid, "pipe", "--config", path], input=frame(PROBE))
-                self.assertEqual(came, (b"", "csid: %s: %s\n" % (path, why), 3))
+                self.assertEqual(came, (b"", "csid: %s: %s\n" % (shown, why), 3))
 
 
 class UnknownKeysTest(CsidTest):

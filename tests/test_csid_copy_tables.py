@@ -1,5 +1,6 @@
 """`csid --copy-tables` copies the tables of a file, as committed at one moment, into a new file."""
 
+import contextlib
 import os
 import pathlib
 import shutil
@@ -9,7 +10,7 @@ import subprocess
 
 from tests.support.frames import controller, reply
 from tests.support.processes import SECONDS, TOP, no_byte, run
-from tests.support.rows import CsidTest
+from tests.support.rows import CsidTest, each
 from tests.support.tables import A, NEXT_9, NO_DATABASE, POOL, Tables, next_is, volume, volume_fault
 
 ONE = b"volumes 1, attachments 0, next number 9, format 2\n"
@@ -135,6 +136,27 @@ class CopyTablesTest(CsidTest):
         self.tables.new()
         path = os.path.join(self.folder, "none", "copy.db")
         self.assertEqual(self.copy(to=path), self.refused(path + ".new", NO_SUCH_FILE))
+
+    def test_empty_path_of_a_copy_is_refused(self):
+        self.tables.new()
+        command = [self.csid, "--copy-tables", self.tables.path, "--to", ""]
+        self.assertEqual(run(command, cwd=self.place), self.refused("''", NO_SUCH_FILE))
+        self.assertEqual(names(self.place), [])
+
+    @each([("the WAL", "-wal"), ("the journal", "-journal")])
+    def test_copy_beside_its_tables_is_refused(self, name, end):
+        """The next opening would take the copy for its own file: over a WAL it writes, and a journal it
+        refuses."""
+        self.tables.new()
+        with contextlib.suppress(FileNotFoundError):
+            os.unlink(self.tables.path + end)
+        kept = names(self.folder)
+        os.symlink(".", os.path.join(self.folder, "link"))
+        why = "'--to <COPY>' names the WAL or the journal of '--copy-tables <FILE>'"
+        for to in self.tables.path + end, os.path.join(self.folder, "link", "volumes.db" + end):
+            with self.subTest(to=to):
+                self.assertEqual(self.copy(to=to), (b"", "csid: %s\n" % why, 2))
+        self.assertEqual(names(self.folder), sorted([*kept, "link"]))
 
     def test_refused_tables_are_not_copied(self):
         self.tables.new().script(volume(1, pool="'p9'") + NEXT_9)

@@ -98,6 +98,12 @@ class PipeTest(CsidTest):
             self.check("a full output, and " + words[0].decode(), run([self.csid] + words, stdout=full),
                        (b"", WRITE_FAILED, 5))
 
+    @each(["--help", "serve --help", "--version"])
+    def test_reader_of_words_that_goes_away_is_no_failure(self, words):
+        pipe = closed_pipe()
+        self.addCleanup(os.close, pipe)
+        self.assertEqual(run([self.csid, *words.split()], stdout=pipe), (b"", "", 0))
+
     @each([
         ("nothing", b"", b""),
         ("a call", frame(PROBE), READY),

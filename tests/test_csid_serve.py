@@ -149,7 +149,9 @@ class AccessTest(ServeTest):
                 server.end()
 
     def check_unknown(self, server, word):
-        self.assertEqual(server.end(), (line_of(word + ": there is no such group in /etc/group"), 7, False))
+        """An empty name is shown as ''."""
+        name = word or "''"
+        self.assertEqual(server.end(), (line_of(name + ": there is no such group in /etc/group"), 7, False))
 
     @each(["no-such-group", "", "4294967295", "+1", "root:x"])
     def test_unknown_group_is_refused(self, word):

@@ -120,6 +120,52 @@ class TakenSocketTest(SocketTest):
         self.assertFalse(os.path.exists(self.path("taken.db")))
 
 
+class PlaceOfTablesTest(SocketTest):
+    """A socket at the place of the tables, of their WAL or journal, or of a change store is refused, and
+    nothing is made."""
+
+    AT_TABLES = "'--socket <PATH>' and '--tables <FILE>' name one file"
+    BESIDE = "'--socket <PATH>' names the WAL or the journal of '--tables <FILE>'"
+    AT_LOG = "'--socket <PATH>' and '--log <PATH>' name one file"
+
+    def refused(self, socket, option, path, why, **how):
+        names = sorted(os.listdir(self.folder))
+        command = [self.csid, "serve", "--socket", socket, option, path, "--config", self.path("no.toml")]
+        self.assertEqual(text(run(command, input=b"", **how)), ("", "csid: %s\n" % why, 2))
+        self.assertEqual(sorted(os.listdir(self.folder)), names)
+
+    @each([
+        ("the same text", "a.db", "a.db", AT_TABLES),
+        ("another spelling", "./a.db", "sub/../a.db", AT_TABLES),
+        ("a link of the folder", "link/a.db", "sub/a.db", AT_TABLES),
+        ("the WAL", "a.db-wal", "a.db", BESIDE),
+        ("the WAL in another spelling", "link/a.db-wal", "./sub/a.db", BESIDE),
+        ("the journal", "a.db-journal", "a.db", BESIDE),
+        ("tables that exist", "made.db", "made.db", AT_TABLES),
+        ("a link to tables", "made.db", "linked.db", AT_TABLES),
+        ("the WAL of tables that exist", "made.db-wal", "made.db", BESIDE),
+        ("the WAL of tables behind a link", "made.db-wal", "linked.db", BESIDE),
+    ])
+    def test_socket_at_the_place_of_tables_is_refused(self, name, socket, tables, why):
+        os.mkdir(self.path("sub"))
+        os.symlink("sub", self.path("link"))
+        write(self.path("made.db"), b"")
+        os.symlink("made.db", self.path("linked.db"))
+        self.refused(self.path(socket), "--tables", self.path(tables), why)
+        self.refused(socket, "--tables", self.path(tables), why, cwd=self.folder)
+        self.assertEqual(os.listdir(self.path("sub")), [])
+
+    def test_socket_at_the_place_of_a_change_store_is_refused(self):
+        self.refused("a.sock", "--log", self.path("a.sock"), self.AT_LOG, cwd=self.folder)
+
+    @each([("a name that begins alike", "a.db-wals"), ("the name in another folder", "sub/a.db")])
+    def test_socket_next_to_tables_is_served(self, name, socket):
+        os.mkdir(self.path("sub"))
+        server = self.serve(socket, "--connections", "1", tables=self.path("a.db"))
+        self.assertEqual(server.ask(PROBE), READY)
+        self.assertEqual(server.end(), ("", 0))
+
+
 class ScarceTest(SocketTest):
     """Servers with too few descriptors, with too little memory, or without a path for the tables."""
 

@@ -1,13 +1,16 @@
-"""The plugin for Docker Swarm: deploy/swarm.json and deploy/swarm-start agree."""
+"""The plugin for Docker Swarm: deploy/swarm.json and deploy/swarm-start agree, and the script starts the
+three programs."""
 
 import json
 import os
 import pathlib
 import re
 import shlex
+import signal
+import subprocess
 
-from tests.support.processes import TOP
-from tests.support.rows import RowTest
+from tests.support.processes import SECONDS, TOP, wait
+from tests.support.rows import FilesTest, RowTest, each
 
 
 def read(name):
@@ -57,3 +60,82 @@ class SwarmTest(RowTest):
         known = {each["name"]: each["settable"] for each in self.plugin["env"]}
         self.check("variables", set(re.findall(r"\$([A-Z_]+)", self.script)), set(known))
         self.check("settable", set(map(tuple, known.values())), {("value",)})
+
+
+# A program that runs instead of each of the three. It writes its words into a file, a line for each, and
+# stays.
+PROGRAM = """#!/bin/sh
+printf '%s\\n' "$@" > "$0.new"
+mv "$0.new" "$0.words"
+exec sleep 60
+"""
+NO_POOL = (
+    "swarm-start: /var/lib/csid-pools has no folder: make one for each pool, with the name of the pool\n"
+)
+SETTINGS = {"NODE": "n1", "TOPOLOGY": "zone=a", "MAX_VOLUMES": "2"}
+
+
+class SwarmStartTest(FilesTest):
+    """The script runs below a folder, with other programs instead of the three."""
+
+    def setUp(self):
+        super().setUp()
+        for name in ["csid", "front", "node-plugin"]:
+            self.write("bin/" + name, PROGRAM)
+            os.chmod(self.path("bin/" + name), 0o755)
+        os.makedirs(self.path("var/lib/csid-pools"))
+        self.script = re.sub("/run/|/var/lib/", lambda it: self.folder + it.group(), read("swarm-start"))
+
+    def path(self, name):
+        return os.path.join(self.folder, name)
+
+    def start(self, **settings):
+        path = self.path("bin") + ":" + os.environ["PATH"]
+        process = subprocess.Popen(["sh", "-c", self.script], env={"PATH": path, **SETTINGS, **settings},
+                                   stderr=subprocess.PIPE, text=True, start_new_session=True)
+        self.addCleanup(process.stderr.close)
+        self.addCleanup(process.wait)
+        self.addCleanup(self.end, process)
+        return process
+
+    def end(self, process):
+        """Ends the script and all that it started, as tini does."""
+        try:
+            os.killpg(process.pid, signal.SIGKILL)
+        except ProcessLookupError:
+            pass
+
+    def words(self, program):
+        """Returns the words of a program that the script has started."""
+        name = "bin/%s.words" % program
+        self.assertTrue(wait(lambda: os.path.exists(self.path(name))), program + " was not started")
+        return self.read(name).splitlines()
+
+    def test_without_folders_of_pools_it_ends(self):
+        self.write("var/lib/csid-pools/file", "")
+        process = self.start()
+        status = process.wait(SECONDS)
+        said = process.stderr.read().replace(self.folder, "")
+        self.check("status and line", (status, said), (1, NO_POOL))
+        self.check("programs that were started", os.listdir(self.path("run/csid")), [])
+
+    def test_each_folder_is_a_pool(self):
+        names = ["-x", "p 1", "p1"]
+        for name in names:
+            os.mkdir(self.path("var/lib/csid-pools/" + name))
+        self.start()
+        words = self.words("node-plugin")
+        pools = [word for option, word in zip(words, words[1:]) if option == "--pool"]
+        self.check("pools", sorted(pools),
+                   ["%s=%s/" % (name, self.path("var/lib/csid-pools/" + name)) for name in names])
+
+    @each([
+        ("TOPOLOGY", "--topology", ["--max-volumes", "2"]),
+        ("MAX_VOLUMES", "--max-volumes", ["--topology", "zone=a"]),
+    ])
+    def test_empty_variable_gives_no_option(self, variable, option, others):
+        os.mkdir(self.path("var/lib/csid-pools/p1"))
+        self.start(**{variable: ""})
+        words = self.words("node-plugin")
+        self.check("the option", option in words, False)
+        self.check("the other one", words[words.index(others[0]):][:2], others)

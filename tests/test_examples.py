@@ -96,6 +96,16 @@ class ExampleTest(SessionTest):
         lines = read("examples", "session").splitlines()
         self.check("its last lines", lines[-len(self.commands) :], self.commands)
 
+    def test_example_without_a_temporary_folder_does_nothing(self):
+        """Otherwise it would work over a file in the folder where it is called."""
+        for name in "mktemp", "volumes.db":
+            pathlib.Path(self.folder, name).write_text("#!/bin/sh\nexit 3\n")
+        os.chmod(os.path.join(self.folder, "mktemp"), 0o755)
+        session = shlex.quote(os.path.join(TOP, "examples", "session"))
+        came = self.bash("-c", "cd %s && %s" % (self.folder, session))
+        left = sorted(os.listdir(self.folder))
+        self.check("what it does", (came, left), (("", "", 3), ["csictl", "csid", "mktemp", "volumes.db"]))
+
     def test_example_without_programs_says_what_makes_them(self):
         """Nothing is built, and the PATH has only the tools that the script itself needs."""
         copy = shutil.copy(os.path.join(TOP, "examples", "session"), os.path.join(self.folder, "session"))

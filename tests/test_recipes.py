@@ -12,7 +12,7 @@ import tempfile
 
 from tests.support.processes import TOP
 from tests.support.recipes import (ME, NODES, OWNER, POOLS, Place, RecipeTest, blocks, create, has, publish,
-                                   stands)
+                                   read, stands, wait)
 from tests.support.rows import each
 
 
@@ -225,6 +225,7 @@ class RecipesTest(RecipeTest):
             shutil.copytree(place.top + "/usr/local/bin", release)
             want = "name pools.example.org, pools 2, nodes 2\n" + has(1, 0, 2, format=1)
             self.check("an upgrade", place.recipe("### An upgrade", release=release), (want, "", 0))
+            wait(lambda: read(place.control.lines("csid")))
             self.check("the file is taken over", place.check(), (has(1, 0, 2), "", 0))
             self.check("the programs before", sorted(os.listdir(place.copies())),
                        ["csictl", "csid", "front", "volumes.db"])
@@ -304,6 +305,28 @@ class RestoreTest(RecipeTest):
         wanted = [("volume vol-40 1048576\n", "", 0), ("context readonly=false\n", "", 0)]
         self.assertEqual(self.make_again(), wanted)
 
+    def test_second_run_changes_nothing(self):
+        """The folder for the old files exists, so nothing is moved or replaced."""
+        self.make_again()
+        rows, old = self.place.rows(), self.place.rows(self.copies + "/old/volumes.db")
+        for options in "-euo", "-o":
+            out, error, status = self.place.recipe("### A restore", 0, options=options, copies=self.copies)
+            self.check("what is said", (out, "File exists" in error, status), ("", True, 1))
+        self.check("the restored file", self.place.rows(), rows)
+        self.check("the old file", self.place.rows(self.copies + "/old/volumes.db"), old)
+
+    def test_node_whose_id_begins_with_a_dash(self):
+        self.place.configure(POOLS, {"-n": 2}, "")
+        self.place.orchestrator("vol-2\n", "vol-2 rw -n\n")
+        self.place.recipe("### A restore", 1, copies=self.copies)
+        out, error, status = self.place.recipe(ATTACHMENTS, 1, copies=self.copies)
+        self.check("it is attached", (out.splitlines()[1:], error, status),
+                   (["context readonly=false"], "", 0))
+        os.rename(self.copies + "/attached-since", self.copies + "/detached-since")
+        out, error, status = self.place.recipe(ATTACHMENTS, 0, copies=self.copies)
+        self.check("it is detached", (out, error, status), ("0 OK -\n", "", 0))
+        self.check("what the file has", self.place.check(), (has(2, 0, 3), "", 0))
+
     def test_next_number_is_raised_above_the_volumes(self):
         self.make_again()
         self.place.must("sqlite3 /var/lib/csid/volumes.db 'UPDATE meta SET next_number = 40'")
@@ -315,6 +338,77 @@ class RestoreTest(RecipeTest):
         self.assertEqual(self.place.recipe("### A restore", 3), ("", "", 0))
         self.place.must("systemctl stop csid-front")
         self.assertEqual(self.place.call(*create("d")), "0 OK\nvolume vol-41 1048576\n")
+
+
+class FailedRecipeTest(RecipeTest):
+    """A command of a recipe fails, and the whole block was pasted into a terminal."""
+
+    def setUp(self):
+        super().setUp()
+        self.place = self.enterContext(Place(self.csictl, self.csid))
+        self.place.call(*create("a"))
+
+    def pasted(self, heading, number=0, **how):
+        return self.place.recipe(heading, number, options="-o", **how)
+
+    def deny_copies(self):
+        """Replaces the folder of the copies by a file, so that no copy can be made."""
+        os.rmdir(self.place.top + "/root")
+        pathlib.Path(self.place.top + "/root").touch()
+
+    def test_upgrade_without_a_copy_installs_nothing(self):
+        self.deny_copies()
+        release = os.path.join(self.place.top, "release")
+        os.mkdir(release)
+        for name in "csid", "csictl", "front":
+            pathlib.Path(release, name).touch()
+        status = self.pasted("### An upgrade", release=release)[2]
+        sizes = [os.path.getsize("%s/usr/local/bin/%s" % (self.place.top, it)) for it in os.listdir(release)]
+        self.check("the status, and whether a program is new", (status, 0 in sizes), (1, False))
+
+    def test_pages_stay_without_a_copy(self):
+        self.place.must("systemctl stop csid; sqlite3 /var/lib/csid/volumes.db 'PRAGMA journal_mode = DELETE;"
+                        " PRAGMA page_size = 4096; VACUUM' > pages")
+        self.deny_copies()
+        status = self.pasted("### Smaller pages")[2]
+        size = self.place.in_folder('sqlite3 volumes.db "PRAGMA page_size"')
+        self.check("the status and the pages", (status, size), (1, ("4096\n", "", 0)))
+
+    def test_refused_configuration_is_not_installed(self):
+        self.place.configure({"p3": (1, "c")}, {})
+        before = self.configurations()
+        status = self.pasted("### A change of the configuration")[2]
+        self.check("the status and the files", (status, self.configurations()), (4, before))
+
+    def configurations(self):
+        folder = pathlib.Path(self.place.top, "etc/csid")
+        return {it.name: it.read_text() for it in folder.iterdir()}
+
+    @each(["### A change of the configuration", "### A pool that is renamed"])
+    def test_second_run_keeps_the_first_configuration(self, heading):
+        first = self.configurations()["config.toml"]
+        self.place.configure({**POOLS, "fast": (10, "a")}, NODES)
+        for _ in range(2):
+            self.check("a run", self.pasted(heading)[2], 0)
+            self.place.must("systemctl stop csid-front")
+        self.check("it is kept", first in self.configurations().values(), True)
+
+    def test_daily_copies_stay_where_a_copy_fails(self):
+        days = ["2026-01-%02d-000000.db" % day for day in range(1, 16)]
+        daily = self.place.top + "/root/csid-daily/"
+        os.mkdir(daily)
+        for day in days:
+            open(daily + day, "x").close()
+        self.place.configure({"p3": (1, "c")}, {}, "")
+        status = self.pasted("### A copy of a file that is served", 1)[2]
+        self.check("the status and the copies", (status, sorted(os.listdir(daily))), (4, days))
+
+    def test_daily_copy_of_a_killed_run_is_removed(self):
+        daily = self.place.top + "/root/csid-daily/"
+        os.mkdir(daily)
+        pathlib.Path(daily, "2026-01-01-000000.db.new").write_text("cut")
+        self.place.recipe("### A copy of a file that is served", 1)
+        self.check("the endings", {os.path.splitext(it)[1] for it in os.listdir(daily)}, {".db"})
 
 
 POOL_OF_NONE = "volume 1: its pool is not one of the configuration"
@@ -438,12 +532,13 @@ class KubernetesChangeTest(RecipeTest):
 
     def changes(self, gibibytes):
         """Sets the size of the pool of 10 TiB in the manifest to this many GiB, and runs the commands that
-        change it. Volumes have 2 GiB of the pool. Returns the output, the errors and the status."""
+        change it, as pasted into a terminal. Volumes have 2 GiB of the pool. Returns the output, the errors
+        and the status."""
         text = pathlib.Path(self.manifest).read_text()
         self.assertEqual(text.count("bytes = %d\n" % (10 << 40)), 1)
         with open(self.manifest, "w") as file:
             file.write(text.replace("bytes = %d\n" % (10 << 40), "bytes = %d\n" % (gibibytes << 30)))
-        return self.place.shell(self.change)
+        return self.place.shell(self.change, "-o")
 
     def test_pod_is_replaced_after_the_check(self):
         self.assertEqual(self.changes(2), (has(2, 0, 3), "", 0))

@@ -14,6 +14,7 @@ import subprocess
 from tests.support.processes import TOP, program
 from tests.support.recipes import (Cluster, Etcd, ME, MIB, NODE, OWNER, PLUGIN, Place, RecipeTest, SECONDS,
                                    blocks, create, has, publish, read)
+from tests.support.rows import each
 
 
 # Parts of names that are hard to write in JSON, in SQL or in lines.
@@ -232,6 +233,59 @@ class FileAndEtcdTest(EtcdRecipeTest):
         self.assertEqual(self.said(), "csid: /var/lib/csid/volumes.db: " + self.counts)
         self.assertEqual(self.list_volumes(), self.listing)
         self.assertEqual(self.recipe(BACK, 3), ("%d\n" % self.count, "", 0))
+
+
+class FailedEtcdRecipeTest(EtcdRecipeTest):
+    """A variable is empty, a block runs twice, or etcd does not answer, and the whole block was pasted into a
+    terminal."""
+
+    programs = {"kubectl": ME}
+
+    def pasted(self, heading, number, **variables):
+        """Runs one block as a terminal does into which it is pasted."""
+        text = blocks(heading, "ETCD.md")[number]
+        return self.place.shell("cd /var/lib/csid\n" + text, options="-o",
+                                etcd="--endpoints " + self.etcd.endpoint,
+                                config=self.place.top + "/etc/csid/config.toml", **variables)
+
+    @each([(OVER, 4), (BACK, 3)])
+    def test_empty_name_removes_nothing(self, heading, number):
+        """Without a name the prefix would be a slash, with which all keys of Kubernetes begin."""
+        self.etcd.ctl("put", "/registry/secrets/a", "b")
+        out, error, _ = self.pasted(heading, number, name="")
+        self.check("what is said", (out, "name: parameter null or not set" in error), ("", True))
+        self.check("the key", self.etcd.ctl("get", "/registry/secrets/a").stdout, "/registry/secrets/a\nb\n")
+
+    def test_empty_folder_moves_nothing(self):
+        """Without a folder mv would replace the WAL by the file."""
+        files = {"volumes.db": "file", "volumes.db-wal": "changes"}
+        for name, text in files.items():
+            pathlib.Path(self.place.folder, name).write_text(text)
+        error = self.pasted(OVER, 2, copies="")[1]
+        found = {it.name: it.read_text() for it in pathlib.Path(self.place.folder).iterdir()}
+        self.check("what is said", "copies: parameter null or not set" in error, True)
+        self.check("the files", found, files)
+
+    def test_second_run_in_a_claim_replaces_nothing(self):
+        """The folder for the old files exists, so csid may have served the file since the first run."""
+        if importlib.util.find_spec("yaml") is None:
+            self.skipTest("python's yaml is not installed")
+        os.mkdir(self.place.top + "/root/deploy")
+        shutil.copy(os.path.join(TOP, "deploy", "kubernetes-tables.yaml"), self.place.top + "/root/deploy")
+        os.mkdir(self.place.folder + "aside")
+        pathlib.Path(self.place.folder, "volumes.db").write_text("served since")
+        pathlib.Path(self.place.top, "volumes.db").write_text("copy")
+        block = blocks("### In Kubernetes, from etcd to a file", "ETCD.md")[2]
+        status = self.place.shell(block, "-o", deploy=self.place.top + "/root/deploy", aside="aside")[2]
+        served = pathlib.Path(self.place.folder, "volumes.db").read_text()
+        self.check("the status and the file", (status, served), (1, "served since"))
+
+    def test_export_that_fails_leaves_no_file(self):
+        """With an empty file csid would give numbers again."""
+        self.etcd.end()
+        out, _, status = self.pasted(BACK, 1, name=PLUGIN)
+        self.check("the counts, the status and the files", (out, status, os.listdir(self.place.folder)),
+                   ("", 1, []))
 
 
 class Format1Test(EtcdRecipeTest):

@@ -173,6 +173,8 @@ func (c *candidate) holdLock(t *term) error {
 			// The password was changed after it was read. The lease might still be renewed for
 			// ever, so the term ends here, and the next one reads the password again.
 			return err
+		case errors.As(err, new(otherCluster)):
+			return err
 		case err != nil && !isLeading:
 			c.reportWaiting(err)
 		case err != nil:

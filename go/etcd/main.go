@@ -16,6 +16,7 @@ import (
 
 	"fomaheti/logqueue"
 	"fomaheti/sockets"
+	_ "fomaheti/streams"
 )
 
 // Exit statuses. csid uses the same numbers for the same outcomes.

@@ -10,6 +10,7 @@ import (
 	"time"
 
 	"go.etcd.io/etcd/clientv3/balancer/resolver/endpoint"
+	pb "go.etcd.io/etcd/etcdserver/etcdserverpb"
 	"google.golang.org/grpc"
 	"google.golang.org/grpc/codes"
 	"google.golang.org/grpc/credentials"
@@ -31,11 +32,20 @@ type members struct {
 	// By endpoint: unreached has the reason why the last connection failed, and refused has the
 	// error in the last answer. A successful call removes both.
 	unreached, refused map[string]string
+	// The id of the cluster in the last answer, by endpoint, until the member cannot be reached.
+	clusters map[string]uint64
 }
+
+// otherCluster is the error of a call that a member of another cluster answered. Its text names the
+// members and their clusters.
+type otherCluster string
+
+// Error returns the text.
+func (o otherCluster) Error() string { return string(o) }
 
 func newMembers(opts options, logf func(format string, args ...interface{})) *members {
 	return &members{opts: opts, logf: logf, endpoints: map[string]string{}, unreached: map[string]string{},
-		refused: map[string]string{}}
+		refused: map[string]string{}, clusters: map[string]uint64{}}
 }
 
 // isSecure reports whether connections use TLS. The scheme of the first endpoint decides. If it has
@@ -117,10 +127,12 @@ func (m *members) noteUnreached(ctx context.Context, to string, err error) {
 	m.mutex.Lock()
 	defer m.mutex.Unlock()
 	m.unreached[to] = reason
+	delete(m.clusters, to)
 }
 
 // recordAnswer is an interceptor that notes the error of the member that answered a call. After a
-// call without an error, it forgets the noted errors of this member.
+// call without an error, it forgets the noted errors of this member. If the member is of another
+// cluster than the others, the call fails.
 func (m *members) recordAnswer(ctx context.Context, method string, request, reply interface{}, conn *grpc.ClientConn,
 	invoke grpc.UnaryInvoker, options ...grpc.CallOption) error {
 	var from peer.Peer
@@ -136,8 +148,34 @@ func (m *members) recordAnswer(ctx context.Context, method string, request, repl
 		m.refused[to] = status.Convert(err).Message()
 	} else {
 		delete(m.unreached, to)
+		err = m.noteCluster(to, reply)
 	}
 	return err
+}
+
+// noteCluster notes the id of the cluster in an answer of a member. It returns an otherCluster if
+// this member has answered with another id before, or if another member has another id: the rows of
+// one cluster, and the lock of another one, would be used together.
+func (m *members) noteCluster(to string, reply interface{}) error {
+	answer, ok := reply.(interface{ GetHeader() *pb.ResponseHeader })
+	id := uint64(0)
+	if ok {
+		id = answer.GetHeader().GetClusterId()
+	}
+	if id == 0 {
+		return nil
+	}
+	before := m.clusters[to]
+	m.clusters[to] = id
+	if before != 0 && before != id {
+		return otherCluster(fmt.Sprintf("%s was of cluster %x, and is of cluster %x", to, before, id))
+	}
+	for _, other := range m.opts.endpoints {
+		if of := m.clusters[other]; of != 0 && of != id {
+			return otherCluster(fmt.Sprintf("the members are of two clusters: %s of %x, %s of %x", other, of, to, id))
+		}
+	}
+	return nil
 }
 
 // membersOf names the members that caused an error, in parentheses after a space. If no member

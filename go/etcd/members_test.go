@@ -87,6 +87,59 @@ func TestUnreachedMember(t *testing.T) {
 	}
 }
 
+// A call fails if the member that answers is of another cluster than the others, or than before. A
+// member that cannot be reached does not count, and an answer without a cluster says nothing.
+func TestMembersOfTwoClusters(t *testing.T) {
+	of := func(id uint64) interface{} { return &pb.RangeResponse{Header: &pb.ResponseHeader{ClusterId: id}} }
+	const two = "the members are of two clusters: a:1 of a, b:2 of b"
+	cases := []struct {
+		name string
+		// The answers before the last one, and the last one. Reply nil stands for a member that
+		// cannot be reached.
+		before []answerOf
+		last   answerOf
+		want   string
+	}{
+		{"the first answer", nil, answerOf{"a:1", of(10)}, ""},
+		{"one cluster", []answerOf{{"a:1", of(10)}, {"b:2", of(10)}}, answerOf{"c:3", of(10)}, ""},
+		{"two clusters", []answerOf{{"a:1", of(10)}}, answerOf{"b:2", of(11)}, two},
+		{"two clusters, again", []answerOf{{"a:1", of(10)}, {"b:2", of(11)}}, answerOf{"b:2", of(11)}, two},
+		{"the other one of two", []answerOf{{"a:1", of(11)}, {"b:2", of(11)}, {"b:2", nil}},
+			answerOf{"a:1", of(10)}, "a:1 was of cluster b, and is of cluster a"},
+		{"a changed cluster, again", []answerOf{{"a:1", of(11)}, {"a:1", of(10)}}, answerOf{"a:1", of(10)}, ""},
+		{"another one is gone", []answerOf{{"a:1", of(10)}, {"b:2", of(11)}, {"b:2", nil}},
+			answerOf{"a:1", of(10)}, ""},
+		{"no cluster", []answerOf{{"a:1", of(10)}}, answerOf{"b:2", of(0)}, ""},
+		{"no header", []answerOf{{"a:1", of(10)}}, answerOf{"b:2", &pb.RangeResponse{}}, ""},
+		{"no answer of etcd", []answerOf{{"a:1", of(10)}}, answerOf{"b:2", "x"}, ""},
+	}
+	for _, c := range cases {
+		t.Run(c.name, func(t *testing.T) {
+			m := newMembers(options{endpoints: []string{"a:1", "b:2", "c:3"}}, t.Logf)
+			for _, one := range c.before {
+				one.noteIn(m)
+			}
+			if got := errorText(c.last.noteIn(m)); got != c.want {
+				t.Errorf("got %q, want %q", got, c.want)
+			}
+		})
+	}
+}
+
+// answerOf is an answer of the member at an endpoint.
+type answerOf struct {
+	to    string
+	reply interface{}
+}
+
+func (a answerOf) noteIn(m *members) error {
+	if a.reply == nil {
+		m.noteUnreached(context.Background(), a.to, errors.New("no"))
+		return nil
+	}
+	return m.noteCluster(a.to, a.reply)
+}
+
 // tokenServer is an etcd that accepts only its newest token.
 type tokenServer struct {
 	failingServer

@@ -122,8 +122,8 @@ var changeMessages = map[protowire.Number]func() (change, map[protowire.Number]t
 	},
 }
 
-// readChange decodes the message of Commit. It refuses a message without a known change, or with
-// changes of two kinds.
+// readChange decodes the message of Commit. It refuses a message without a known change, with
+// changes of two kinds, or with a number of a volume that no row can have.
 func readChange(message []byte) (change, error) {
 	var read change
 	var targets map[protowire.Number]target
@@ -147,6 +147,10 @@ func readChange(message []byte) (change, error) {
 	}
 	if read == nil {
 		return nil, refusal{codes.InvalidArgument, "no change that is known"}
+	}
+	// Field 1 of each change is the number.
+	if number := targets[1].(*uint64); *number > maxNumber {
+		return nil, errNumber
 	}
 	return read, nil
 }

@@ -21,7 +21,8 @@ func TestReadChange(t *testing.T) {
 			&addVolume{volume{0, "", 0, "", []byte{}, []byte{}}}},
 		{"add volume without fields", "0a00", &addVolume{}},
 		{"remove volume", "1202 0807", &removeVolume{7}},
-		{"remove volume 2^64-1", "120b 08ffffffffffffffffff01", &removeVolume{1<<64 - 1}},
+		{"remove volume 2^63-1", "120a 08ffffffffffffffff7f", &removeVolume{1<<63 - 1}},
+		{"remove volume 7 in ten bytes", "120b 0887808080808080808000", &removeVolume{7}},
 		{"attach", "1a12 0807 1202 6e31 1a08 1a060a001a020801 2001", &attach{attachment{7, "n1", caps, true}}},
 		{"the last of two booleans counts", "1a06 0807 2000 2005", &attach{attachment{7, "", nil, true}}},
 		{"detach", "2206 0807 1202 6e31", &detach{7, "n1"}},
@@ -54,6 +55,7 @@ func TestReadChangeErrors(t *testing.T) {
 		noChange  = "no change that is known"
 		moreThan1 = "more than one change"
 		malformed = "malformed message"
+		above     = "a number is above 9223372036854775807"
 	)
 	cases := []struct{ name, message, want string }{
 		{"empty", "", noChange},
@@ -72,6 +74,14 @@ func TestReadChangeErrors(t *testing.T) {
 		{"cut off change with a text that is not UTF-8", "2207 1201ff 1200", malformed},
 		{"text that is not UTF-8 before another one", "2209 0807 1201 ff 1202 6e31", malformed},
 		{"number above 2^64-1", "120b 08ffffffffffffffffff02", malformed},
+		{"add_volume of 2^63", "0a0b 0880808080808080808001", above},
+		{"remove_volume of 2^63", "120b 0880808080808080808001", above},
+		{"attach of 2^63", "1a0b 0880808080808080808001", above},
+		{"detach of 2^63", "220b 0880808080808080808001", above},
+		{"detach_all of 2^63", "2a0b 0880808080808080808001", above},
+		{"set_mutable of 2^63", "320b 0880808080808080808001", above},
+		{"set_mutable of 2^64-1", "320b 08ffffffffffffffffff01", above},
+		{"the last number counts", "120d 0801 0880808080808080808001", above},
 	}
 	for _, c := range cases {
 		t.Run(c.name, func(t *testing.T) {

@@ -192,8 +192,12 @@ func (t *term) endReason() error {
 // if etcd does not answer within the timeout of a request. If it returns nil, the program led at
 // some moment after confirmLead was called. Neither the program's own clock nor a watch can confirm
 // this: if the key is deleted or the lease is revoked by hand, another program may lead before a
-// watch reports it.
+// watch reports it. First it stops an earlier transaction with an unknown outcome, by fence: no
+// call is answered before the outcome is decided.
 func (t *term) confirmLead(ctx context.Context) error {
+	if err := t.fence(ctx); err != nil {
+		return err
+	}
 	ctx, cancel := context.WithTimeout(ctx, t.timeout)
 	defer cancel()
 	var reason error

@@ -202,14 +202,17 @@ func (b *backend) limit(conn *connection) {
 		b.mutex.Lock()
 		defer b.mutex.Unlock()
 		if len(conn.sent) > 0 && conn.sent[0] == first {
-			conn.end(b.lateReply())
+			conn.end(lateReply(b.late))
 		}
 	})
 }
 
-// lateReply returns the reason why limit ends a connection.
-func (b *backend) lateReply() error {
-	return fmt.Errorf("an earlier call was given up, and no reply to it came within %v", b.late)
+// lateReply is the reason why limit ends a connection. Its value is the time limit.
+type lateReply time.Duration
+
+// Error returns a text with the time limit.
+func (limit lateReply) Error() string {
+	return fmt.Sprintf("an earlier call was given up, and no reply to it came within %v", time.Duration(limit))
 }
 
 // send sends as many of the waiting calls as may be sent now. If calls wait and there is no

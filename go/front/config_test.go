@@ -41,6 +41,29 @@ func TestConfiguration(t *testing.T) {
 	}
 }
 
+// The front reads a file as csid does: a key counts only in its own case, and a byte order mark is
+// skipped.
+func TestConfigurationAsCsidReadsIt(t *testing.T) {
+	const poolP, nodeN = "[[pool]]\nname = \"p\"\nbytes = 2097152\n", "[[node]]\nid = \"n\"\nmax_volumes = 2\n"
+	want := &configuration{[]pool{{"p", 2097152, nil}}, []node{{"n", 2}}}
+	for _, row := range []struct{ name, text string }{
+		{"a byte order mark", "\ufeff" + poolP + nodeN},
+		{"another list of pools", poolP + nodeN + "[[Pool]]\nname = \"q\"\nbytes = 1048576\n"},
+		{"another name", poolP + "Name = \"q\"\n" + nodeN},
+		{"another size", poolP + "Bytes = 1048576\n" + nodeN},
+		{"other segments", poolP + "Segments = { zone = \"a\" }\n" + nodeN},
+		{"another list of nodes", poolP + nodeN + "[[NODE]]\nid = \"m\"\nmax_volumes = 1\n"},
+		{"another id", poolP + nodeN + "ID = \"m\"\n"},
+		{"another number of volumes", poolP + nodeN + "Max_Volumes = 1\n"},
+	} {
+		t.Run(row.name, func(t *testing.T) {
+			if got, err := readConfiguration(fileOf(t, row.text)); err != nil || !reflect.DeepEqual(got, want) {
+				t.Errorf("%v, %v", got, err)
+			}
+		})
+	}
+}
+
 // A configuration is answered as the JSON that csictl reads. Without a configuration the call is
 // refused.
 func TestConfigurationInJSON(t *testing.T) {

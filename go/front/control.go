@@ -159,6 +159,8 @@ func (c *control) answerAll(conn *clientConn) {
 func (c *control) carriesOut(conn *clientConn, request frames.Request) bool {
 	conn.begin()
 	defer conn.end()
+	c.handler.running.Add(1)
+	defer c.handler.running.Add(-1)
 	if request.Path == getConfiguration {
 		return c.reply(conn, c.configuration.reply()) == nil
 	}

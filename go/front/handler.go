@@ -68,6 +68,8 @@ type handler struct {
 	messages *messages
 	metrics  *metrics
 	log      *logger
+	// The number of calls of clients that run, over gRPC and over the control socket.
+	running atomic.Int32
 	// Holds a value for each health check over HTTP that runs.
 	checks chan struct{}
 	// hasHealth is true if the health service of gRPC is answered, and logChanges if each change is
@@ -114,12 +116,17 @@ func newServer(h *handler) *grpc.Server {
 // handle answers one call of a client, counts it, and logs it if it was refused or is a change to
 // be logged.
 func (h *handler) handle(_ interface{}, stream grpc.ServerStream) error {
+	h.running.Add(1)
+	defer h.running.Add(-1)
 	begin := time.Now()
 	path, _ := grpc.MethodFromServerStream(stream)
 	asked, err := h.answer(path, stream)
 	h.ended("", path, asked, status.Convert(err), time.Since(begin))
 	return err
 }
+
+// isIdle reports whether no call of a client runs.
+func (h *handler) isIdle() bool { return h.running.Load() == 0 }
 
 // ended counts a call, and logs it if it was refused or if asked is not nil. socket is the name of
 // the socket, and is empty for gRPC.
@@ -250,8 +257,19 @@ func refusal(ctx context.Context, who string, err error) error {
 	if ended := ended(ctx); ended != nil {
 		return status.FromContextError(ended).Err()
 	}
-	return status.Errorf(codes.Unavailable, "%s: %v", who, err)
+	return noReplyError{status.Newf(codes.Unavailable, "%s: %v", who, err), err}
 }
+
+// noReplyError is the gRPC error for a call without a reply, with its reason.
+type noReplyError struct {
+	status *status.Status
+	reason error
+}
+
+// Error returns the text of the gRPC error, GRPCStatus its status, and Unwrap the reason.
+func (e noReplyError) Error() string              { return e.status.Err().Error() }
+func (e noReplyError) GRPCStatus() *status.Status { return e.status }
+func (e noReplyError) Unwrap() error              { return e.reason }
 
 // shownPath returns a path as one word of a log line. A path that no frame can have is quoted,
 // after it was cut to frames.MaxPathBytes bytes.

@@ -61,11 +61,14 @@ func newListings(h *handler, config *configuration) *listings {
 		failurePause: failurePause}
 }
 
-// run lists volumes until the context ends. While the front waits for csid, it makes no listing.
+// run lists volumes until the context ends. While the front waits for csid, it makes no listing and
+// drops the last one.
 func (l *listings) run(ctx context.Context) {
 	for ctx.Err() == nil {
 		next := l.failurePause
-		if !l.handler.isWaiting.Load() {
+		if l.handler.isWaiting.Load() {
+			l.keep(nil)
+		} else {
 			begin := time.Now()
 			if l.list(ctx) == nil {
 				next = l.listingPause - time.Since(begin)
@@ -133,7 +136,12 @@ func (l *listings) keep(listed *listing) {
 	l.last = listed
 }
 
+// kept returns the last listing. While the front waits for csid it returns nil: another csid may
+// have changed the volumes since.
 func (l *listings) kept() *listing {
+	if l.handler.isWaiting.Load() {
+		return nil
+	}
 	l.mutex.Lock()
 	defer l.mutex.Unlock()
 	return l.last

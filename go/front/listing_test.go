@@ -153,6 +153,28 @@ func TestPaceOfListings(t *testing.T) {
 	<-ended
 }
 
+// A front that waits for csid again reports no use of pools and nodes. Once csid is ready, it does
+// not report the listing before the wait.
+func TestListingBeforeAWait(t *testing.T) {
+	l, _ := paging(t, map[string]string{"": entry1 + entry2 + entry3})
+	l.failurePause = time.Millisecond
+	if err := l.list(context.Background()); err != nil || l.kept() == nil {
+		t.Fatalf("%v, %v", err, l.kept())
+	}
+	l.handler.isWaiting.Store(true)
+	if l.kept() != nil {
+		t.Error("a listing is reported while the front waits")
+	}
+	ctx, cancel := context.WithCancel(context.Background())
+	go l.run(ctx)
+	time.Sleep(50 * time.Millisecond)
+	cancel()
+	l.handler.isWaiting.Store(false)
+	if l.kept() != nil {
+		t.Error("the listing before the wait is reported")
+	}
+}
+
 // Collect reports the series of each pool and node of the configuration. Before the first listing
 // it reports only their sizes and limits.
 func TestMetricsOfListings(t *testing.T) {

@@ -24,6 +24,7 @@ import (
 
 	"fomaheti/logqueue"
 	"fomaheti/sockets"
+	_ "fomaheti/streams"
 )
 
 // The exit statuses: done after all calls have ended and for --help and --version, cutOff if calls
@@ -41,8 +42,12 @@ const (
 // version is the version of the repository. go/front/build takes it from the file VERSION.
 var version = "unknown"
 
-// The longest time that the front waits, at its end, until its last lines are written.
-const lastLinesTime = time.Second
+// The longest times that the front waits at its end: until its last lines are written, and after
+// the time of --grace until the last replies are sent.
+const (
+	lastLinesTime   = time.Second
+	lastRepliesTime = 100 * time.Millisecond
+)
 
 func main() {
 	// The front goes on if the reader of standard error is gone.
@@ -146,7 +151,8 @@ func take(server *grpc.Server, listener net.Listener) error {
 }
 
 // end takes no further calls, and waits until the running calls end: then it returns done. After
-// the time of --grace, or at a second signal, it returns cutOff.
+// the time of --grace, or at a second signal, it returns cutOff if a call still runs. A client that
+// hangs delays the end of its connection, and is no call.
 func (f *front) end(server *grpc.Server) int {
 	ended := make(chan struct{})
 	go func() {
@@ -160,6 +166,14 @@ func (f *front) end(server *grpc.Server) int {
 		return done
 	case <-f.stop:
 	case <-time.After(f.asked.grace):
+	}
+	select {
+	case <-ended:
+		return done
+	case <-time.After(lastRepliesTime):
+	}
+	if f.handler.isIdle() {
+		return done
 	}
 	f.log.cutOff()
 	return cutOff

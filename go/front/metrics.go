@@ -78,9 +78,14 @@ func newCounter(name, help string) prometheus.Counter {
 	return prometheus.NewCounter(prometheus.CounterOpts{Namespace: namespace, Name: name, Help: help})
 }
 
-// ended counts a call that ended with this code, and records how long it took.
+// ended counts a call that ended with this code, and records how long it took. A node plugin may
+// answer any number as a code. Those that gRPC does not have count as UNKNOWN, since each code is a
+// series.
 func (m *metrics) ended(path string, code codes.Code, took time.Duration) {
-	if own := m.series[path]; own != nil && int(code) < len(own.calls) {
+	if code > codes.Unauthenticated {
+		code = codes.Unknown
+	}
+	if own := m.series[path]; own != nil {
 		own.once.Do(func() { own.seconds = m.seconds.WithLabelValues(path) })
 		own.calls[code].Inc()
 		own.seconds.Observe(took.Seconds())

@@ -70,6 +70,32 @@ func TestConventions(t *testing.T) {
 	}
 }
 
+// A node plugin may answer any number as a code. The codes that gRPC does not have count as
+// UNKNOWN, so that their series are bounded.
+func TestCodesThatGRPCDoesNotHave(t *testing.T) {
+	for _, path := range []string{nodeService + "NodeGetInfo", nodeService + "NodeOther", probe} {
+		t.Run(path, func(t *testing.T) {
+			m := newMetrics()
+			m.begin(nodeMethods)
+			m.ended(path, codes.Unknown, time.Second)
+			before := testutil.CollectAndCount(m.calls)
+			for code := codes.Unauthenticated + 1; code < 100; code++ {
+				m.ended(path, code, time.Second)
+			}
+			if after := testutil.CollectAndCount(m.calls); after != before {
+				t.Errorf("%d series, and %d before", after, before)
+			}
+			method := path
+			if !nodeMethods[path] {
+				method = methodLabel(path)
+			}
+			if count := testutil.ToFloat64(m.calls.WithLabelValues(method, "Unknown")); count != 84 {
+				t.Errorf("%v calls are UNKNOWN, wanted 84", count)
+			}
+		})
+	}
+}
+
 // Attempts that failed are counted apart from connections that were made.
 func TestCountedConnections(t *testing.T) {
 	path, _ := csid(t, answering(notFound))

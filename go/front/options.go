@@ -116,6 +116,9 @@ func checked(asked options) (options, error) {
 	if asked, err = checkControl(asked); err != nil {
 		return options{}, err
 	}
+	if asked.grace < 0 {
+		return options{}, fmt.Errorf("--grace: %v is below 0", asked.grace)
+	}
 	if asked.late < 0 {
 		return options{}, fmt.Errorf("--late: %v is below 0", asked.late)
 	}

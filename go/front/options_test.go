@@ -77,6 +77,7 @@ func TestRefusedOptions(t *testing.T) {
 		{"--csid c --listen l x", "", "a word that is not known"},
 		{"--csid c --listen l --frobnicate", "", "frobnicate"},
 		{"--csid c --listen l --grace x", "", "grace"},
+		{"--csid c --listen l --grace -1s", "", "--grace: -1s is below 0"},
 		{"--csid c --listen l --late -1s", "", "--late: -1s is below 0"},
 		{"--csid c --listen l --waiting 0", "", "--waiting: 0 is not 1 to 1048576"},
 		{"--csid c --listen l --waiting 1048577", "", "--waiting: 1048577 is not 1 to 1048576"},

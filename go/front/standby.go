@@ -2,6 +2,7 @@ package main
 
 import (
 	"context"
+	"errors"
 	"fmt"
 	"net/http"
 	"strings"
@@ -168,7 +169,7 @@ func soonReady(ctx context.Context, check func(context.Context) error, length ti
 // lock, does not hang. A csid that answers other calls before the Probe does not hang either.
 func (h *handler) livez(answer http.ResponseWriter, request *http.Request) {
 	err := h.checkInTurn(request.Context(), h.isCsidReady)
-	isUnanswered := status.Code(err) == codes.DeadlineExceeded || reason(err) == h.backend.lateReply().Error()
+	isUnanswered := status.Code(err) == codes.DeadlineExceeded || errors.As(err, new(lateReply))
 	if isUnanswered && h.backend.life.silence() >= questionTime {
 		http.Error(answer, "csid hangs", http.StatusServiceUnavailable)
 		return

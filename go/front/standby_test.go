@@ -3,6 +3,7 @@ package main
 import (
 	"bytes"
 	"context"
+	"errors"
 	"fmt"
 	"io"
 	"net"
@@ -16,6 +17,9 @@ import (
 	"syscall"
 	"testing"
 	"time"
+
+	"google.golang.org/grpc/codes"
+	"google.golang.org/grpc/status"
 
 	"fomaheti/frames"
 )
@@ -272,6 +276,32 @@ func TestEndWhileItWaits(t *testing.T) {
 	}
 	if status := <-ended; status != done {
 		t.Errorf("status %d", status)
+	}
+}
+
+// A call is known to be lost for a late reply by the type of its error, not by its text, which csid
+// or a system call could have too.
+func TestErrorsOfLateReplies(t *testing.T) {
+	late := lateReply(time.Minute)
+	for name, row := range map[string]struct {
+		reason error
+		isLate bool
+	}{
+		"late":               {late, true},
+		"late, in another":   {fmt.Errorf("reading: %w", late), true},
+		"text of a late one": {errors.New(late.Error()), false},
+		"unanswered":         {errUnanswered, false},
+	} {
+		t.Run(name, func(t *testing.T) {
+			err := refusal(context.Background(), csidName, row.reason)
+			if got := errors.As(err, new(lateReply)); got != row.isLate {
+				t.Errorf("late: %v", got)
+			}
+			want := status.New(codes.Unavailable, "csid: "+row.reason.Error())
+			if got := status.Convert(err); got.Code() != want.Code() || got.Message() != want.Message() {
+				t.Errorf("got %v, wanted %v", got, want)
+			}
+		})
 	}
 }
 

@@ -10,13 +10,15 @@ import (
 	"google.golang.org/grpc"
 	"google.golang.org/grpc/backoff"
 	"google.golang.org/grpc/codes"
+	"google.golang.org/grpc/connectivity"
 	"google.golang.org/grpc/status"
 )
 
 const (
 	// The time limit for an answer of the controller.
 	controllerTime = 10 * time.Second
-	// The time for which a call waits for a missing controller, which may be starting.
+	// The time for which a call waits for a missing controller, which may be starting. The answer
+	// may come later, within controllerTime.
 	startTime = 2 * time.Second
 )
 
@@ -98,14 +100,8 @@ func (c controller) page(ctx context.Context, entries int32, token string) (*lis
 	ctx, cancel := context.WithTimeout(ctx, controllerTime)
 	defer cancel()
 	page, err := c.list(ctx, &listRequest{MaxEntries: entries, StartingToken: token})
-	if status.Code(err) == codes.Unavailable {
-		starting, cancel := context.WithTimeout(ctx, startTime)
-		defer cancel()
-		retried, retryErr := c.list(starting, &listRequest{MaxEntries: entries, StartingToken: token},
-			grpc.WaitForReady(true))
-		if status.Code(retryErr) != codes.DeadlineExceeded {
-			page, err = retried, retryErr
-		}
+	if status.Code(err) == codes.Unavailable && c.becomesReady(ctx) {
+		page, err = c.list(ctx, &listRequest{MaxEntries: entries, StartingToken: token})
 	}
 	if err != nil {
 		return nil, err
@@ -118,7 +114,20 @@ func (c controller) page(ctx context.Context, entries int32, token string) (*lis
 	return page, nil
 }
 
-func (c controller) list(ctx context.Context, request *listRequest, options ...grpc.CallOption) (*listResponse, error) {
+// becomesReady waits at most startTime until there is a connection to the controller, and reports
+// whether there is one.
+func (c controller) becomesReady(ctx context.Context) bool {
+	ctx, cancel := context.WithTimeout(ctx, startTime)
+	defer cancel()
+	for state := c.GetState(); state != connectivity.Ready; state = c.GetState() {
+		if !c.WaitForStateChange(ctx, state) {
+			return false
+		}
+	}
+	return true
+}
+
+func (c controller) list(ctx context.Context, request *listRequest) (*listResponse, error) {
 	page := new(listResponse)
-	return page, c.Invoke(ctx, "/"+controllerName+"/ListVolumes", request, page, options...)
+	return page, c.Invoke(ctx, "/"+controllerName+"/ListVolumes", request, page)
 }

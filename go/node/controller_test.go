@@ -168,6 +168,26 @@ func TestControllerThatStartsLater(t *testing.T) {
 	}
 }
 
+// A controller that has just started may take longer for its answer than a call waits for its
+// start.
+func TestControllerThatStartsAndAnswersLate(t *testing.T) {
+	t.Parallel()
+	pages := pageServer{[]int{1}, 1, 100}
+	started := startController(t, func(request *listRequest) (*listResponse, error) {
+		time.Sleep(startTime + 200*time.Millisecond)
+		return pages.list(request)
+	})
+	socket := filepath.Join(filepath.Dir(started), "later.sock")
+	c := newController(t, socket)
+	go func() {
+		time.Sleep(300 * time.Millisecond)
+		os.Symlink(started, socket)
+	}()
+	if size, err := c.size(context.Background(), "vol-1"); size != volumeBytes(1) || err != nil {
+		t.Errorf("got %d, error %v, want %d", size, err, volumeBytes(1))
+	}
+}
+
 // The error of a controller is returned unchanged. An entry without a volume is an error.
 func TestControllerErrors(t *testing.T) {
 	cases := []struct {

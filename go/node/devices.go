@@ -62,10 +62,16 @@ func (devices) create(data string, bytes int64) error {
 // block device. Before it mounts a volume without contents, it makes a file system there.
 func (devices) stage(data, staging string, use *capability, readOnly bool) error {
 	device, err := attach(data, readOnly)
-	if err != nil || use.Block != nil {
+	if err != nil {
 		return err
 	}
+	if use.Block != nil {
+		return checkStays(device)
+	}
 	if ok, err := isMounted(device, staging); ok || err != nil {
+		return err
+	}
+	if err := checkUnused(staging); err != nil {
 		return err
 	}
 	if err := format(device); err != nil {
@@ -90,7 +96,45 @@ func (devices) unstage(data, staging string) error {
 			return err
 		}
 	}
+	if err := checkUnpublished(device); err != nil {
+		return err
+	}
 	return detach(data, device)
+}
+
+// checkUnpublished refuses to detach a device that is mounted or bound anywhere. The path of a
+// publication would lead to the next volume that gets the device.
+func checkUnpublished(device string) error {
+	paths, err := mountPoints(device)
+	if err == nil && len(paths) > 0 {
+		err = status.Errorf(codes.FailedPrecondition, "the volume is still published at %s", paths[0])
+	}
+	return err
+}
+
+// checkStays refuses a device that the kernel will detach as soon as nobody has it open. Nothing
+// keeps a device open for a block volume, and another volume may get the device.
+func checkStays(device string) error {
+	isEnding, err := hasFlag(device, "loop/autoclear")
+	if err == nil && isEnding {
+		err = status.Errorf(codes.Aborted, "the volume is being unstaged, and %s is still open somewhere", device)
+	}
+	return err
+}
+
+// checkUnused refuses a path at which anything is mounted.
+func checkUnused(path string) error {
+	isUsed, err := isMountPoint(path)
+	if err == nil && isUsed {
+		err = status.Errorf(codes.AlreadyExists, "something else is mounted at %s", path)
+	}
+	return err
+}
+
+// hasFlag reports whether an attribute of a loop device is 1, by its file in /sys/block.
+func hasFlag(device, attribute string) (bool, error) {
+	text, err := os.ReadFile(filepath.Join("/sys/block", filepath.Base(device), attribute))
+	return strings.TrimSpace(string(text)) == "1", err
 }
 
 func (devices) publish(data, staging, target string, use *capability, readOnly bool) error {
@@ -117,6 +161,9 @@ func publishMount(device, staging, target string, readOnly bool) error {
 		return err
 	} else if ok {
 		return checkSame(staging, target, readOnly)
+	}
+	if err := checkUnused(target); err != nil {
+		return err
 	}
 	if err := os.Mkdir(target, 0o755); err != nil && !errors.Is(err, os.ErrExist) {
 		return err
@@ -148,17 +195,19 @@ func checkSame(staging, target string, readOnly bool) error {
 // publishBlock binds the device to a path. Programs can write to a device over a read-only bind
 // mount, so a read-only volume needs a read-only device.
 func publishBlock(device, target string, readOnly bool) error {
-	if readOnly {
-		text, err := os.ReadFile(filepath.Join("/sys/block", filepath.Base(device), "ro"))
-		if err != nil {
-			return err
-		}
-		if strings.TrimSpace(string(text)) != "1" {
-			return status.Error(codes.FailedPrecondition,
-				"a block volume is read-only only where the controller attached it so")
-		}
+	if err := checkStays(device); err != nil {
+		return err
+	}
+	if isReadOnly, err := hasFlag(device, "ro"); err != nil {
+		return err
+	} else if readOnly && !isReadOnly {
+		return status.Error(codes.FailedPrecondition,
+			"a block volume is read-only only where the controller attached it so")
 	}
 	if ok, err := isDevice(device, target); ok || err != nil {
+		return err
+	}
+	if err := checkUnused(target); err != nil {
 		return err
 	}
 	file, err := os.OpenFile(target, os.O_CREATE|os.O_WRONLY, 0o600)
@@ -179,10 +228,23 @@ func (devices) unpublish(data, target string) error {
 			return err
 		}
 	}
-	if err := os.Remove(target); !errors.Is(err, os.ErrNotExist) {
+	return removeTarget(target)
+}
+
+// removeTarget removes what publish makes at a target: an empty folder or an empty file. Any other
+// file stays, and is no error.
+func removeTarget(target string) error {
+	file, err := os.Lstat(target)
+	if errors.Is(err, os.ErrNotExist) || errors.Is(err, syscall.ENOTDIR) {
+		return nil
+	}
+	if err != nil {
 		return err
 	}
-	return nil
+	if file.Mode().IsRegular() && file.Size() > 0 || file.Mode()&os.ModeSymlink != 0 {
+		return nil
+	}
+	return os.Remove(target)
 }
 
 // usage returns the total, used and available bytes of a mounted file system, or only the size of a
@@ -227,10 +289,17 @@ func findPresence(data, path string) (presence, error) {
 }
 
 // attach returns the loop device of a file. If there is none, it makes one, read-only if readOnly
-// is true.
+// is true. It refuses a device that was made otherwise.
 func attach(data string, readOnly bool) (string, error) {
 	device, err := attached(data)
-	if device != "" || err != nil {
+	if err != nil {
+		return "", err
+	}
+	if device != "" {
+		isReadOnly, err := hasFlag(device, "ro")
+		if err == nil && isReadOnly != readOnly {
+			err = status.Error(codes.AlreadyExists, "the volume is staged otherwise: unstage it first")
+		}
 		return device, err
 	}
 	args := []string{"--find", "--show", data}
@@ -240,9 +309,20 @@ func attach(data string, readOnly bool) (string, error) {
 	return output("losetup", args...)
 }
 
-// attached returns the loop device of a file, or "" if there is none.
+// attached returns the loop device of a file, or "" if there is none. Another program may have
+// attached the file too: then it is the device that is mounted or bound, or the first one.
 func attached(data string) (string, error) {
-	return output("losetup", "--noheadings", "--output", "NAME", "--associated", data)
+	listed, err := output("losetup", "--noheadings", "--output", "NAME", "--associated", data)
+	found := strings.Fields(listed)
+	if err != nil || len(found) == 0 {
+		return "", err
+	}
+	for i := 0; len(found) > 1 && i < len(found); i++ {
+		if paths, err := mountPoints(found[i]); err != nil || len(paths) > 0 {
+			return found[i], err
+		}
+	}
+	return found[0], nil
 }
 
 // detach detaches a file from its loop device. Another program may have the device open, such as a
@@ -331,9 +411,13 @@ func command(name string, args ...string) error {
 }
 
 // output runs a command and returns its standard output, without spaces and newlines at its ends.
-// If the command fails, the error contains its standard error.
+// If the command fails, the error contains its standard error. The command has a process group of
+// its own: a SIGINT of the terminal ends the plugin once the running calls are answered, and must
+// not end a mkfs of such a call.
 func output(name string, args ...string) (string, error) {
-	written, err := exec.Command(name, args...).Output()
+	command := exec.Command(name, args...)
+	command.SysProcAttr = &syscall.SysProcAttr{Setpgid: true}
+	written, err := command.Output()
 	var exitErr *exec.ExitError
 	if errors.As(err, &exitErr) {
 		err = fmt.Errorf("%s: %w: %s", name, err, strings.TrimSpace(string(exitErr.Stderr)))

@@ -16,6 +16,7 @@ import (
 	"google.golang.org/grpc/status"
 
 	"fomaheti/sockets"
+	_ "fomaheti/streams"
 )
 
 // Exit statuses. A refused call is a failure.

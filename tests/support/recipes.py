@@ -342,11 +342,12 @@ class Place:
         return subprocess.run([self.top + "/usr/local/bin/csictl", "frame", "--method", *words],
                               capture_output=True, check=True).stdout
 
-    def shell(self, text, **variables):
-        """Runs commands in bash below the folder. Returns the output, the errors and the status."""
+    def shell(self, text, options="-euo", **variables):
+        """Runs commands in bash below the folder. Returns the output, the errors and the status. With the
+        options `-o` a command also runs after one that failed, as where a block is pasted into a terminal."""
         text = re.sub(r"(?<![\w/.$])(%s)(?=[/\s;\"']|-)" % "|".join(FOLDERS),
                       lambda found: self.top + found.group(1), text)
-        done = subprocess.run(["bash", "-euo", "pipefail", "-c", text], env={**self.variables, **variables},
+        done = subprocess.run(["bash", options, "pipefail", "-c", text], env={**self.variables, **variables},
                               cwd=self.top, stdin=subprocess.DEVNULL, capture_output=True, text=True,
                               timeout=3 * SECONDS)
         return done.stdout, done.stderr.replace(self.top, ""), done.returncode

@@ -109,14 +109,20 @@ fn refusal_line(alloc: Global, error: &ClapError) -> Result<String, AllocError> 
     Ok(line)
 }
 
+// Prints help or the version. A reader of standard output that goes away, as `head` does, is no failure.
+fn print(rt: &HostRuntime, text: &ClapError) -> Result<(), ArgumentsFault> {
+    match text.print(rt) {
+        Ok(()) => Ok(()),
+        Err(error) if error.kind() == ErrorKind::BrokenPipe => Ok(()),
+        Err(_) => Err(ArgumentsFault::WriteFailed),
+    }
+}
+
 // Prints help or the version if the arguments ask for it. Otherwise returns why the arguments are refused.
 fn end(rt: &HostRuntime, error: &ClapError) -> Result<(), ArgumentsFault> {
     match error.kind() {
         ClapKind::OutOfMemory => Err(ArgumentsFault::NoMemory),
-        ClapKind::DisplayHelp | ClapKind::DisplayVersion => match error.print(rt) {
-            Ok(()) => Ok(()),
-            Err(_) => Err(ArgumentsFault::WriteFailed),
-        },
+        ClapKind::DisplayHelp | ClapKind::DisplayVersion => print(rt, error),
         _ => Err(ArgumentsFault::refused(refusal_line(rt.alloc(), error))),
     }
 }
@@ -125,7 +131,8 @@ fn end(rt: &HostRuntime, error: &ClapError) -> Result<(), ArgumentsFault> {
 ///
 /// # Errors
 ///
-/// If the arguments do not fit the command line, printing fails, or memory is refused.
+/// If the arguments do not fit the command line, printing fails other than by a reader that goes away, or
+/// memory is refused.
 pub fn matches<'a>(
     rt: &HostRuntime,
     line: &CommandLine<'_>,

@@ -21,14 +21,19 @@ impl<N: Display, W: Display> Display for Named<N, W> {
 /// The name of a thing that failed, and the reason of the failure, as owned texts.
 pub type Cause = Named<String, String>;
 
-/// Makes a [`Cause`] from a copy of `name` and the text of `why`.
+// Returns a name as a line shows it: `''` if it is empty, so that the line does not begin with its colon.
+fn shown(name: &str) -> &str {
+    if name.is_empty() { "''" } else { name }
+}
+
+/// Makes a [`Cause`] from a copy of `name`, or `''` if it is empty, and the text of `why`.
 ///
 /// # Errors
 ///
 /// If memory is refused.
 pub fn cause<W: Display>(alloc: Global, name: &str, why: &W) -> Result<Cause, AllocError> {
     Ok(Named {
-        name: String::from_str(alloc, name)?,
+        name: String::from_str(alloc, shown(name))?,
         what: format!(in alloc; "{why}")?,
     })
 }

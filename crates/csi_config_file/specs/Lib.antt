@@ -1,3 +1,4 @@
 pub mod ConfigFile
 pub mod Document
+pub mod Faults
 pub mod Unknown

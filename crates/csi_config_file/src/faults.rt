@@ -1,10 +1,20 @@
 //! Finds the faults of all parts of a configuration at once.
 
+ghost use Rattle.std.specs.Prelude.{◌≡◌};
+ghost use Rattle.std.specs.FinMap.{entries};
+ghost use Rattle.std.specs.List.{list_any};
+ghost use Rattle.csi_config.specs.Faults.{breaks_segment};
+ghost use Rattle.csi_config_file.specs.Faults.{pool_breaks};
+
 use crate::config_file::{ConfigError, Key, KeyRule, Keys, Section, element};
 use csi_config::{
-    Config, ConfigFault, GRANULE_BYTES, Node, NodeRule, Plugin, Pool, PoolRule, Sizes, is_whole,
+    Config, ConfigFault, GRANULE_BYTES, Node, NodeRule, Plugin, Pool, PoolRule, SizeRule, Sizes,
+    is_whole,
 };
-use csi_types::{MAX_NODES, MAX_POOL_BYTES, MAX_POOLS, MAX_VOLUMES, Map, Text};
+use csi_types::{
+    MAX_NODES, MAX_POOL_BYTES, MAX_POOLS, MAX_SEGMENTS, MAX_TEXT_BYTES, MAX_VOLUMES, Map, Text,
+    has_alike_keys,
+};
 use std::alloc::{AllocError, Global};
 use std::collections::BTreeSet;
 use toml::{Table, Value};
@@ -13,6 +23,73 @@ const FAULTLESS_SIZES: Sizes = Sizes {
     default_bytes: GRANULE_BYTES,
     greatest_bytes: GRANULE_BYTES,
 };
+
+// The rules for the default size and the greatest size, in the order of [`SizeRule`].
+const SIZE_RULES: [SizeRule; 4] = [
+    SizeRule::Default,
+    SizeRule::Greatest,
+    SizeRule::Order,
+    SizeRule::Limit,
+];
+
+// The rules for the size and the segments of a pool, in the order of [`PoolRule`].
+const POOL_RULES: [PoolRule; 6] = [
+    PoolRule::Bytes,
+    PoolRule::Segments,
+    PoolRule::KeyEmpty,
+    PoolRule::KeyTooLong,
+    PoolRule::ValueTooLong,
+    PoolRule::KeysAlike,
+];
+
+// Returns true if the sizes break the rule. A size is `None` if it cannot be read. It then breaks no rule.
+fn sizes_break(rule: SizeRule, default_bytes: Option<u64>, greatest_bytes: Option<u64>) -> bool {
+    match rule {
+        SizeRule::Default => default_bytes.is_some_and(|bytes| !is_whole(bytes)),
+        SizeRule::Greatest => greatest_bytes.is_some_and(|bytes| !is_whole(bytes)),
+        SizeRule::Order => match (default_bytes, greatest_bytes) {
+            (Some(default_bytes), Some(greatest_bytes)) => default_bytes > greatest_bytes,
+            _ => false,
+        },
+        SizeRule::Limit => greatest_bytes.is_some_and(|bytes| bytes > MAX_POOL_BYTES),
+    }
+}
+
+// Returns true if a segment with this key and value breaks the rule. Returns false for a rule that is not
+// about a single segment.
+fn breaks_segment(rule: PoolRule, key: &Text, value: &Text) -> bool
+    ensures { result ≡ breaks_segment rule (key.now, value.now) }
+{
+    match rule {
+        PoolRule::KeyEmpty => key.is_empty(),
+        PoolRule::KeyTooLong => key.len() > MAX_TEXT_BYTES,
+        PoolRule::ValueTooLong => value.len() > MAX_TEXT_BYTES,
+        _ => false,
+    }
+}
+
+fn has_broken_segment(rule: PoolRule, segments: &Map) -> bool
+    ensures { result ≡ list_any (breaks_segment rule) (entries segments.now) }
+{
+    segments
+        .iter()
+        .any(|(key, value)| breaks_segment(rule, key, value))
+}
+
+// Returns true if a pool breaks a rule for its size or its segments. Returns false for a rule for its name.
+fn pool_breaks(rule: PoolRule, pool: &Pool) -> bool
+    ensures { result ≡ pool_breaks rule pool.now }
+{
+    match rule {
+        PoolRule::Name | PoolRule::NameTwice => false,
+        PoolRule::Bytes => !is_whole(pool.bytes),
+        PoolRule::Segments => pool.segments.len() > MAX_SEGMENTS,
+        PoolRule::KeyEmpty | PoolRule::KeyTooLong | PoolRule::ValueTooLong => {
+            has_broken_segment(rule, &pool.segments)
+        }
+        PoolRule::KeysAlike => has_alike_keys(&pool.segments),
+    }
+}
 
 // Returns the number of a pool or node as a text. Faults contain it if the name or id cannot be read.
 fn number_text(alloc: Global, number: usize) -> Result<Text, AllocError> {
@@ -64,20 +141,14 @@ impl Faults {
 
     // Makes a configuration of these parts, and adds its first fault. The caller has made all parts valid
     // except one, so the fault is in this one part.
-    fn judge(
-        &mut self,
-        plugin: Plugin,
-        sizes: Sizes,
-        pool: Pool,
-        node: Option<Node>,
-    ) -> Result<(), AllocError> {
+    fn judge(&mut self, plugin: Plugin, pool: Pool, node: Option<Node>) -> Result<(), AllocError> {
         let mut pools = Vec::new(self.alloc);
         pools.push(pool)?;
         let mut nodes = Vec::new(self.alloc);
         if let Some(node) = node {
             nodes.push(node)?;
         }
-        if let Err(fault) = Config::new(plugin, sizes, pools, nodes) {
+        if let Err(fault) = Config::new(plugin, FAULTLESS_SIZES, pools, nodes) {
             self.push(fault)?;
         }
         Ok(())
@@ -85,28 +156,18 @@ impl Faults {
 
     fn judge_plugin(&mut self, plugin: Plugin) -> Result<(), AllocError> {
         let pool = self.pool()?;
-        self.judge(plugin, FAULTLESS_SIZES, pool, None)
-    }
-
-    fn judge_sizes(&mut self, default_bytes: u64, greatest_bytes: u64) -> Result<(), AllocError> {
-        let sizes = Sizes {
-            default_bytes,
-            greatest_bytes,
-        };
-        let plugin = self.plugin()?;
-        let pool = self.pool()?;
-        self.judge(plugin, sizes, pool, None)
+        self.judge(plugin, pool, None)
     }
 
     fn judge_pool(&mut self, pool: Pool) -> Result<(), AllocError> {
         let plugin = self.plugin()?;
-        self.judge(plugin, FAULTLESS_SIZES, pool, None)
+        self.judge(plugin, pool, None)
     }
 
     fn judge_node(&mut self, node: Node) -> Result<(), AllocError> {
         let plugin = self.plugin()?;
         let pool = self.pool()?;
-        self.judge(plugin, FAULTLESS_SIZES, pool, Some(node))
+        self.judge(plugin, pool, Some(node))
     }
 
     // Adds the faults of the plugin's name and version.
@@ -126,28 +187,44 @@ impl Faults {
         Ok(())
     }
 
-    // Adds the faults of the default size and of the greatest size. If both are valid, adds the fault of
-    // their order.
+    // Adds each rule that the default size and the greatest size break.
     fn add_sizes(&mut self, top: &Keys<'_>) -> Result<(), AllocError> {
         let default_bytes = self.keep(top.count(Key::DefaultBytes))?;
         let greatest_bytes = self.keep(top.count(Key::GreatestBytes))?;
-        let before = self.found.len();
-        if let Some(bytes) = default_bytes {
-            self.judge_sizes(bytes, MAX_POOL_BYTES)?;
-        }
-        if let Some(bytes) = greatest_bytes {
-            self.judge_sizes(GRANULE_BYTES, bytes)?;
-        }
-        match (default_bytes, greatest_bytes) {
-            (Some(default_bytes), Some(greatest_bytes)) if self.found.len() == before => {
-                self.judge_sizes(default_bytes, greatest_bytes)
+        for rule in SIZE_RULES {
+            if sizes_break(rule, default_bytes, greatest_bytes) {
+                self.push(ConfigFault::Sizes(rule))?;
             }
-            _ => Ok(()),
         }
+        Ok(())
     }
 
-    // Adds the faults of one pool: the faults of its keys, the first rule that the pool breaks alone, and a
-    // name that an earlier pool has. `number` is the number of the pool, counted from 1. `names` has the
+    // Adds the faults of a pool's name: that it is invalid, and that an earlier pool has it. `names` has the
+    // names of the earlier pools, and the call adds this one.
+    fn add_pool_name(&mut self, name: Text, names: &mut BTreeSet<Text>) -> Result<(), AllocError> {
+        let mut pool = self.pool()?;
+        pool.name = name.copy(self.alloc)?;
+        self.judge_pool(pool)?;
+        if !names.insert(name.copy(self.alloc)?)? {
+            let rule = PoolRule::NameTwice;
+            self.push(ConfigFault::Pool { name, rule })?;
+        }
+        Ok(())
+    }
+
+    // Adds each rule for its size and its segments that a pool breaks.
+    fn add_pool_rules(&mut self, pool: &Pool) -> Result<(), AllocError> {
+        for rule in POOL_RULES {
+            if pool_breaks(rule, pool) {
+                let name = pool.name.copy(self.alloc)?;
+                self.push(ConfigFault::Pool { name, rule })?;
+            }
+        }
+        Ok(())
+    }
+
+    // Adds the faults of one pool: the faults of its keys, the faults of its name, and each rule for its size
+    // and its segments that it breaks. `number` is the number of the pool, counted from 1. `names` has the
     // names of the earlier pools, and the call adds the pool's name. Returns the bytes of the pool, or 0 if
     // they cannot be read.
     fn add_pool(
@@ -163,21 +240,14 @@ impl Faults {
         if let Some(segments) = self.keep(keys.segments(self.alloc))? {
             pool.segments = segments;
         }
-        if let Some(name) = &name {
-            pool.name = name.copy(self.alloc)?;
-        }
-        // If the size of this pool is a multiple of 1 MiB but alone exceeds the limit of all pools together,
-        // only the fault of all pools is reported.
-        if let Some(bytes) = bytes.filter(|bytes| *bytes <= MAX_POOL_BYTES || !is_whole(*bytes)) {
+        if let Some(bytes) = bytes {
             pool.bytes = bytes;
         }
-        self.judge_pool(pool)?;
         if let Some(name) = name {
-            if !names.insert(name.copy(self.alloc)?)? {
-                let rule = PoolRule::NameTwice;
-                self.push(ConfigFault::Pool { name, rule })?;
-            }
+            pool.name = name.copy(self.alloc)?;
+            self.add_pool_name(name, names)?;
         }
+        self.add_pool_rules(&pool)?;
         Ok(bytes.unwrap_or(0))
     }
 
@@ -216,6 +286,20 @@ impl Faults {
         Ok(())
     }
 
+    // Adds the faults of a node's id: that it is invalid, and that an earlier node has it. `ids` has the ids
+    // of the earlier nodes, and the call adds this one.
+    fn add_node_id(&mut self, id: Text, ids: &mut BTreeSet<Text>) -> Result<(), AllocError> {
+        self.judge_node(Node {
+            id: id.copy(self.alloc)?,
+            max_volumes: 1,
+        })?;
+        if !ids.insert(id.copy(self.alloc)?)? {
+            let rule = NodeRule::IdTwice;
+            self.push(ConfigFault::Node { id, rule })?;
+        }
+        Ok(())
+    }
+
     // Adds the faults of one node. `number` is the number of the node, counted from 1. `ids` has the ids of
     // the earlier nodes, and the call adds the node's id.
     fn add_node(
@@ -224,25 +308,16 @@ impl Faults {
         keys: &Keys<'_>,
         ids: &mut BTreeSet<Text>,
     ) -> Result<(), AllocError> {
+        let mut shown = number_text(self.alloc, number)?;
         let id = self.keep(keys.text(self.alloc, Key::Id))?;
         let max_volumes = self.keep(keys.count(Key::MaxVolumes))?;
-        let shown = match &id {
-            Some(id) => id.copy(self.alloc)?,
-            None => number_text(self.alloc, number)?,
-        };
-        self.judge_node(Node {
-            id: shown.copy(self.alloc)?,
-            max_volumes: 1,
-        })?;
+        if let Some(id) = id {
+            shown = id.copy(self.alloc)?;
+            self.add_node_id(id, ids)?;
+        }
         if max_volumes.is_some_and(|most| most == 0 || most > MAX_VOLUMES) {
             let rule = NodeRule::Volumes;
             self.push(ConfigFault::Node { id: shown, rule })?;
-        }
-        if let Some(id) = id {
-            if !ids.insert(id.copy(self.alloc)?)? {
-                let rule = NodeRule::IdTwice;
-                self.push(ConfigFault::Node { id, rule })?;
-            }
         }
         Ok(())
     }
@@ -285,10 +360,9 @@ impl Faults {
 }
 
 /// Returns the faults of a document that [`read_config`](crate::read_config) refuses: the faults of keys, of
-/// each pool and each node, and of all pools or all nodes together. If one pool breaks several rules, only
-/// the first of them is reported, and a repeated name. If an element of `pool` or `node` is not a table, the
-/// elements after it are not judged. The list is empty if the document has no fault, or if the bytes are not
-/// a TOML document.
+/// each pool and each node, and of all pools or all nodes together. Each rule that a pool or a node breaks is
+/// one fault. If an element of `pool` or `node` is not a table, the elements after it are not judged. The
+/// list is empty if the document has no fault, or if the bytes are not a TOML document.
 ///
 /// # Errors
 ///

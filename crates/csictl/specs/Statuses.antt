@@ -21,6 +21,7 @@ failure_status failure.NotPaged = 2
 failure_status failure.NotHex = 2
 failure_status (failure.NotDecimal option) = 2
 failure_status failure.NoSocket = 2
+failure_status failure.NoSocketPath = 2
 failure_status (failure.NotText name) = 2
 failure_status (failure.NotSize option) = 2
 failure_status (failure.NotMode option) = 2

@@ -77,6 +77,9 @@ pub(crate) enum Failure {
     /// No socket is given, and no socket exists at the paths that the units use.
     #[error("no socket: give --socket PATH, or CSID_SOCKET in the environment; neither /run/csid-front/control.sock nor /run/csid/csid.sock exists")]
     NoSocket,
+    /// The path in `--socket` is empty.
+    #[error("--socket: the socket's path is empty")]
+    NoSocketPath,
     /// The environment variable with this name is not UTF-8.
     #[error("{0}: no text")]
     NotText(&'static str),
@@ -200,6 +203,7 @@ impl Failure {
             | Failure::NotHex
             | Failure::NotDecimal(_)
             | Failure::NoSocket
+            | Failure::NoSocketPath
             | Failure::NotText(_)
             | Failure::NotSize(_)
             | Failure::NotMode(_)

@@ -45,9 +45,13 @@ fn existing(rt: &HostRuntime) -> Option<&'static str> {
 ///
 /// # Errors
 ///
-/// If there is no such socket, the variable is not UTF-8, or memory is refused.
+/// If there is no such socket, the path in the option is empty, the variable is not UTF-8, or memory is
+/// refused.
 pub(crate) fn find(rt: &HostRuntime, arguments: &ArgMatches<'_>) -> Result<String, Failure> {
     if let Some(path) = arguments.get_str("socket") {
+        if path.is_empty() {
+            return Err(Failure::NoSocketPath);
+        }
         return Ok(String::from_str(rt.alloc(), path)?);
     }
     let path = from_environment(rt)?;

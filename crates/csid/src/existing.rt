@@ -154,6 +154,8 @@ pub(crate) struct OpeningLimits {
 fn limited(count: u64, most: u64) -> u64
     ensures least { 2000 ≤ result }
     ensures most { (result ≡ 2000) ⊎ ((result ≤ count) × (result ≤ most)) }
+    ensures all { 2000 ≤ count → count ≤ most → result ≡ count }
+    ensures cut { 2000 ≤ most → most ≤ count → result ≡ most }
 {
     count.min(most).max(LEAST_CACHE_PAGES)
 }

@@ -18,6 +18,7 @@ mod change_store;
 mod checks;
 mod existing;
 mod making;
+mod places;
 mod room;
 mod run;
 mod serving;

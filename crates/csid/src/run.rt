@@ -4,6 +4,7 @@ ghost use Rattle.std.specs.Prelude.{IfErr};
 ghost use Rattle.csid_settings.specs.Statuses.{IsOrNoMemory};
 
 use crate::checks::{check_tables, copy_tables, list_tables};
+use crate::places::{check_copy_place, check_socket_place};
 use crate::room::MemoryGauge;
 use crate::serving::{SilentObserver, TablesFailure, TablesRun};
 use crate::socket::serve_socket;
@@ -97,9 +98,9 @@ fn refused_number(alloc: Global, option: &str, number: &str) -> Failure
     Failure::Arguments(ArgumentsFault::refused(line))
 }
 
-// Returns the failure for options that exclude each other, or for a missing option. `why` is the line about
-// them.
-fn refused_options(alloc: Global, why: &str) -> Failure
+/// Returns the failure for options that exclude each other, or for a missing option. `why` is the line about
+/// them.
+pub(crate) fn refused_options(alloc: Global, why: &str) -> Failure
     ensures { IsOrNoMemory 2 result }
 {
     Failure::Arguments(ArgumentsFault::refused(format!(in alloc; "{why}")))
@@ -130,13 +131,17 @@ pub(crate) fn run(console: &Console<'_>) -> Result<(), Failure> {
     match task(console.rt.alloc(), &matches)? {
         Task::Pipe(pipe) => answer_pipe(console, &pipe),
         Task::Serve(serving) => {
+            check_socket_place(console.rt, &serving)?;
             let config = configuration(console, serving.config, true)?;
             let gauge = MemoryGauge::new(console.rt);
             serve_socket(console, &config, &gauge, &serving)
         }
         Task::CheckConfig(path) => check_config(console, path),
         Task::CheckTables { tables, config } => check_tables(console, tables, config),
-        Task::CopyTables { tables, to, config } => copy_tables(console, tables, to, config),
+        Task::CopyTables { tables, to, config } => {
+            check_copy_place(console.rt, tables, to)?;
+            copy_tables(console, tables, to, config)
+        }
         Task::ListTables {
             tables,
             chosen,

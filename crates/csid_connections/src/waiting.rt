@@ -341,9 +341,9 @@ impl Waiting {
         self.pending.iter().position(|it| it.first.is_known())
     }
 
-    // Removes the oldest connection that is ready from the queue and returns it. If no connection is ready,
-    // returns `None`.
-    fn pop_ready(&mut self) -> Option<Pending>
+    /// Removes the oldest connection that is ready ([`Waiting::has_ready`]) from the queue and returns it. If
+    /// no connection is ready, returns `None`.
+    pub fn pop_ready(&mut self) -> Option<Pending>
         ensures taken { TakesOut (position is_ready self.old.pending.items)
             self.old.pending.items self.new.pending.items result }
         ensures ready { IfSome result (λ one. is_ready one ≡ true) }

@@ -226,10 +226,9 @@ impl<'a> Console<'a> {
         }
     }
 
-    /// If no second has begun, or the current second is over at `now`, begins a second at `now`, and writes
-    /// how many connections ended in the second before without a line of their own. If there are any, the
-    /// connections of the second that begins get no lines either, and are only counted. Otherwise does
-    /// nothing.
+    /// Does nothing while the current second lasts. If it is over at `now`, or none has begun, begins a new
+    /// second, and writes how many connections ended in the last one without a line of their own. If there
+    /// are any, connections that end in the new second get no lines either: they are only counted.
     pub fn finish_second(&self, now: Instant) {
         if self.left(now).is_none() {
             self.shown.set(0);

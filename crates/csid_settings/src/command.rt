@@ -332,16 +332,19 @@ pub fn odd_check<'a>(matches: &ArgMatches<'a>) -> Option<&'static str> {
     None
 }
 
-/// Returns the fault if the arguments of a server name no store for the volumes, or name two stores. Returns
-/// `None` if they name one store, and for other commands.
+/// Returns the fault if the arguments of a server name no store for the volumes, name two stores, or have an
+/// empty path for the socket of a change store. Returns `None` if they name one store, and for other
+/// commands.
 pub fn odd_store<'a>(matches: &ArgMatches<'a>) -> Option<&'static str> {
     let Some(("serve", arguments)) = matches.subcommand() else {
         return None;
     };
-    let tables = arguments.get_str("tables");
-    match (tables.is_some(), arguments.get_str("log").is_some()) {
-        (true, true) => Some("the argument '--log <PATH>' cannot be used with '--tables <FILE>'"),
-        (false, false) => Some("one of '--tables <FILE>' and '--log <PATH>' is required"),
+    match (arguments.get_str("tables"), arguments.get_str("log")) {
+        (Some(_), Some(_)) => Some(
+            "the argument '--log <PATH>' cannot be used with '--tables <FILE>'",
+        ),
+        (None, None) => Some("one of '--tables <FILE>' and '--log <PATH>' is required"),
+        (None, Some("")) => Some("the path of '--log <PATH>' is empty"),
         _ => None,
     }
 }

@@ -61,36 +61,86 @@ func TestCutOff(t *testing.T) {
 	wantRows(t, d, p)
 }
 
+// startWithASlowConnection starts etcd, and a program over two connections to it, and adds the
+// volume 1. The proxy can slow one of the two connections down.
+func startWithASlowConnection(t *testing.T) (*clusters.Cluster, program, *storeConn, *proxy) {
+	t.Helper()
+	cluster := clusters.Start(t, 1)
+	slow, fast := newProxy(t, cluster.Members[0].Address), newProxy(t, cluster.Members[0].Address)
+	p := start(t, slow.address()+","+fast.address(), "--lease", "10", "--timeout", "1500ms").waitLeading(t)
+	l := p.dial(t)
+	l.wantReply(t, makePath, "", codes.OK, "")
+	l.mustCommit(t, addVolume(1, "a"))
+	return cluster, p, l, slow
+}
+
 // A change with an unknown outcome is never made after the next reading, even if etcd receives the
 // change only then. For this, one of two connections to etcd is slow.
 func TestLateChange(t *testing.T) {
 	t.Parallel()
 	for i := 0; i < 2; i++ {
-		cluster := clusters.Start(t, 1)
-		slow, fast := newProxy(t, cluster.Members[0].Address), newProxy(t, cluster.Members[0].Address)
-		p := start(t, slow.address()+","+fast.address(), "--lease", "10", "--timeout", "1500ms").waitLeading(t)
-		l := p.dial(t)
-		l.wantReply(t, makePath, "", codes.OK, "")
-		l.mustCommit(t, addVolume(1, "a"))
+		cluster, p, l, slow := startWithASlowConnection(t)
 		lateChange(t, cluster, p, l, slow)
 	}
+}
+
+// Lead is answered OK only if an earlier change with an unknown outcome was made or will never be,
+// even if etcd receives the change only then.
+func TestLeadAfterALateChange(t *testing.T) {
+	t.Parallel()
+	cluster, p, l, slow := startWithASlowConnection(t)
+	openChange(t, l, slow)
+	processes.Eventually(t, "a Lead that is answered OK", func() bool {
+		reply, err := p.dial(t).call(leadPath, nil)
+		return err == nil && reply.Code == codes.OK
+	})
+	list := func() string { return cluster.Ctl(t, "get", "--prefix", "--keys-only", name+"/attachments/") }
+	made, before := list(), transactions(t, cluster)
+	slow.set(func() { slow.isPaused = false })
+	processes.Eventually(t, "the late change", func() bool { return transactions(t, cluster) > before })
+	time.Sleep(50 * time.Millisecond)
+	if later := list(); later != made {
+		t.Errorf("got the attachments %q after Lead, and %q before the late change", later, made)
+	}
+}
+
+// If the members are of two clusters, no row of one cluster is read under the lock in the other
+// one, and the log says why.
+func TestMembersOfTwoClusters(t *testing.T) {
+	t.Parallel()
+	ours, other := clusters.Start(t, 1), clusters.Start(t, 1)
+	first := start(t, ours.Endpoints()).waitLeading(t)
+	l := first.dial(t)
+	l.wantReply(t, makePath, "", codes.OK, "")
+	l.mustCommit(t, addVolume(1, "a"))
+	wantEnd(t, first)
+	// The other cluster must not look like an older snapshot of this one.
+	for client := other.Client(t); revision(t, client) <= revision(t, ours.Client(t)); {
+		put(t, client, "other", "x")
+	}
+	endpoints := []string{other.Endpoints()}
+	for i := 0; i < 5; i++ {
+		endpoints = append(endpoints, newProxy(t, ours.Members[0].Address).address())
+	}
+	p := start(t, strings.Join(endpoints, ","), "--timeout", "1s")
+	for end := time.Now().Add(10 * time.Second); time.Now().Before(end); time.Sleep(10 * time.Millisecond) {
+		l, err := dial(p.Socket)
+		if err != nil {
+			t.Fatal(err)
+		}
+		if read, _, err := l.readAll(); err == nil && len(read) != 2 {
+			t.Fatalf("got the rows %q, want meta and a volume", read)
+		}
+		l.Close()
+	}
+	p.waitLog(t, "the members are of two clusters: ")
 }
 
 // lateChange lets a change reach etcd only after the next reading of all rows, and checks that a
 // later reading finds the same rows.
 func lateChange(t *testing.T, cluster *clusters.Cluster, p program, l *storeConn, slow *proxy) {
 	t.Helper()
-	// Calls use both connections in turn. A call over the slow one waits there, and the proxy drops
-	// what follows it: so etcd does not learn that the call was canceled.
-	slow.pause()
-	for n, isOpen := 0, false; !isOpen; n++ {
-		deaf := time.AfterFunc(500*time.Millisecond, func() { slow.set(func() { slow.dropsClient = true }) })
-		reply, err := l.call(commitPath, attach(1, fmt.Sprintf("n%d", n), false))
-		isOpen = err != nil
-		if !isOpen && !deaf.Stop() {
-			t.Fatalf("got the late reply %v", reply)
-		}
-	}
+	openChange(t, l, slow)
 	begin := time.Now()
 	read := p.readRows(t)
 	took := time.Since(begin)
@@ -104,6 +154,23 @@ func lateChange(t *testing.T, cluster *clusters.Cluster, p program, l *storeConn
 	}
 	t.Logf("the rows were read within %v, and the change came to etcd after that: it was not made",
 		took.Round(time.Millisecond))
+}
+
+// openChange makes changes until the outcome of one is unknown, since it waits in a slow
+// connection.
+func openChange(t *testing.T, l *storeConn, slow *proxy) {
+	t.Helper()
+	// Calls use both connections in turn. A call over the slow one waits there, and the proxy drops
+	// what follows it: so etcd does not learn that the call was canceled.
+	slow.pause()
+	for n, isOpen := 0, false; !isOpen; n++ {
+		deaf := time.AfterFunc(500*time.Millisecond, func() { slow.set(func() { slow.dropsClient = true }) })
+		reply, err := l.call(commitPath, attach(1, fmt.Sprintf("n%d", n), false))
+		isOpen = err != nil
+		if !isOpen && !deaf.Stop() {
+			t.Fatalf("got the late reply %v", reply)
+		}
+	}
 }
 
 // readRows reads all rows, and tries again until it succeeds.

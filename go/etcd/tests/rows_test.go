@@ -56,12 +56,12 @@ func TestRows(t *testing.T) {
 
 	l.mustCommit(t, detach(1, "n/1"))
 	l.mustCommit(t, detach(1, "none"))
-	l.mustCommit(t, detach(1<<64-1, "n"))
+	l.mustCommit(t, detach(1<<63-1, "n"))
 	l.mustCommit(t, detachAll(1))
 	l.mustCommit(t, detachAll(9))
 	l.mustCommit(t, removeVolume(1))
 	l.mustCommit(t, removeVolume(1))
-	l.mustCommit(t, removeVolume(1<<63))
+	l.mustCommit(t, removeVolume(1<<63-1))
 	wantKeys(t, cluster,
 		name+"/attachments/00000000000000000002/n", `{"cap":"1a060a001a020801","readonly":1}`,
 		name+"/meta", `{"format_no":2,"next_number":3}`,
@@ -94,15 +94,12 @@ func TestComparisons(t *testing.T) {
 			"attachments/00000000000000000001/n is there"},
 		{"attach a missing volume", commitPath, attach(2, "n", false), failed,
 			"volumes/00000000000000000002 is not there"},
-		{"attach volume 2^64-1", commitPath, attach(1<<64-1, "n", false), failed,
-			"volumes/18446744073709551615 is not there"},
+		{"attach volume 2^63-1", commitPath, attach(1<<63-1, "n", false), failed,
+			"volumes/09223372036854775807 is not there"},
 		{"attach twice", commitPath, attach(1, "n", true), failed,
 			"attachments/00000000000000000001/n is there already"},
 		{"modify a missing volume", commitPath, setMutable(2, ""), failed, "volumes/00000000000000000002 is not there"},
 		{"make a second time", makePath, nil, failed, "attachments/00000000000000000001/n is there already"},
-		{"add volume 2^63-1", commitPath, addVolume(1<<63-1, "b"), invalid, "a number is above 9223372036854775807"},
-		{"add a volume of 2^63 bytes", commitPath, addVolumeWith(2, "b", 1<<63, "", "", ""), invalid,
-			"a number is above 9223372036854775807"},
 		{"set parameters as mutable ones", commitPath, setMutable(1, "\x22\x00"), invalid,
 			"params is not fields of mutable parameters"},
 		{"two changes", commitPath, []byte("\x12\x00\x2a\x00"), invalid, "more than one change"},
@@ -122,6 +119,30 @@ func TestComparisons(t *testing.T) {
 	cluster.Ctl(t, "del", name+"/meta")
 	l.wantRefused(t, addVolume(2, "b"), failed, "meta is not there")
 	cluster.Ctl(t, "put", name+"/meta", `{"format_no":2,"next_number":2}`)
+	if after := cluster.Ctl(t, "get", "--prefix", name); after != before {
+		t.Errorf("got\n%s\nwant\n%s", after, before)
+	}
+}
+
+// A number that no row can have is refused, and nothing is made.
+func TestNumbersOfNoRow(t *testing.T) {
+	t.Parallel()
+	cluster, _, l := startLeading(t)
+	before := cluster.Ctl(t, "get", "--prefix", name)
+	for name, message := range map[string][]byte{
+		"add volume 2^63-1":          addVolume(1<<63-1, "b"),
+		"add volume 2^63":            addVolume(1<<63, "b"),
+		"add a volume of 2^63 bytes": addVolumeWith(1, "b", 1<<63, "", "", ""),
+		"remove volume 2^63":         removeVolume(1 << 63),
+		"attach volume 2^64-1":       attach(1<<64-1, "n", false),
+		"detach volume 2^63":         detach(1<<63, "n"),
+		"detach all of volume 2^63":  detachAll(1 << 63),
+		"modify volume 2^63":         setMutable(1<<63, ""),
+	} {
+		t.Run(name, func(t *testing.T) {
+			l.wantRefused(t, message, codes.InvalidArgument, "a number is above 9223372036854775807")
+		})
+	}
 	if after := cluster.Ctl(t, "get", "--prefix", name); after != before {
 		t.Errorf("got\n%s\nwant\n%s", after, before)
 	}

@@ -1,6 +1,7 @@
 package tests
 
 import (
+	"io"
 	"net"
 	"os"
 	"os/exec"
@@ -195,6 +196,52 @@ func TestTermWithAClientThatSaysNothing(t *testing.T) {
 	process.Terminate(t)
 	if status := process.Status(t); status != 0 || process.Log.String() != "" {
 		t.Errorf("status %d, logged %q", status, process.Log)
+	}
+}
+
+// A client that hangs answers no PING of the front, and has no call. The front waits for it no
+// longer than for calls, and its status is 0.
+func TestTermWithAClientThatHangs(t *testing.T) {
+	t.Parallel()
+	for name, signals := range map[string]int{"grace": 1, "second signal": 2} {
+		signals := signals
+		t.Run(name, func(t *testing.T) {
+			t.Parallel()
+			grace := map[int]string{1: "300ms", 2: "1h"}[signals]
+			process := processes.StartFront(t, startFake(t).socket, "--grace", grace)
+			hanging, err := net.Dial("unix", process.Socket)
+			if err != nil {
+				t.Fatal(err)
+			}
+			defer hanging.Close()
+			// The beginning of HTTP/2, and an empty frame SETTINGS (RFC 9113, section 3.4).
+			hanging.Write([]byte("PRI * HTTP/2.0\r\n\r\nSM\r\n\r\n\x00\x00\x00\x04\x00\x00\x00\x00\x00"))
+			if _, err := io.ReadFull(hanging, make([]byte, 9)); err != nil {
+				t.Fatal(err)
+			}
+			for sent := 0; sent < signals; sent++ {
+				process.Terminate(t)
+				time.Sleep(50 * time.Millisecond)
+			}
+			if status := process.Status(t); status != 0 || process.Log.String() != "" {
+				t.Errorf("status %d, logged %q", status, process.Log)
+			}
+		})
+	}
+}
+
+// With --grace 0s the front ends with status 0 if no call runs.
+func TestTermWithoutGrace(t *testing.T) {
+	t.Parallel()
+	csid := startFake(t)
+	for i := 0; i < 20; i++ {
+		process := processes.StartFront(t, csid.socket, "--grace", "0s", "--control",
+			filepath.Join(processes.Folder(t), "control.sock"))
+		newClient(t, process.Socket).wants(t, probe, "", ok(ready))
+		process.Terminate(t)
+		if status := process.Status(t); status != 0 || process.Log.String() != "" {
+			t.Errorf("end %d: status %d, logged %q", i, status, process.Log)
+		}
 	}
 }
 
