@@ -131,13 +131,14 @@ func (m *members) noteUnreached(ctx context.Context, to string, err error) {
 }
 
 // recordAnswer is an interceptor that notes the error of the member that answered a call. After a
-// call without an error, it forgets the noted errors of this member. If the member is of another
+// call without an error, it forgets the noted errors of this member. It does not note a call that
+// this program canceled: an earlier error may not be reported yet. If the member is of another
 // cluster than the others, the call fails.
 func (m *members) recordAnswer(ctx context.Context, method string, request, reply interface{}, conn *grpc.ClientConn,
 	invoke grpc.UnaryInvoker, options ...grpc.CallOption) error {
 	var from peer.Peer
 	err := invoke(ctx, method, request, reply, conn, append(options[:len(options):len(options)], grpc.Peer(&from))...)
-	if from.Addr == nil {
+	if from.Addr == nil || err != nil && ctx.Err() == context.Canceled {
 		return err
 	}
 	to := m.endpointOf(from.Addr)

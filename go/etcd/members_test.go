@@ -13,6 +13,7 @@ import (
 	"go.etcd.io/etcd/clientv3"
 	"go.etcd.io/etcd/etcdserver/api/v3rpc/rpctypes"
 	pb "go.etcd.io/etcd/etcdserver/etcdserverpb"
+	"google.golang.org/grpc"
 	"google.golang.org/grpc/codes"
 	"google.golang.org/grpc/metadata"
 	"google.golang.org/grpc/status"
@@ -84,6 +85,27 @@ func TestUnreachedMember(t *testing.T) {
 		address + ")"
 	if got := strings.Join(lines, "\n"); got != want {
 		t.Errorf("%s\nwanted\n%s", got, want)
+	}
+}
+
+// failsAt is an invoker: the member at an address answers with an error.
+func failsAt(address net.Addr, err error) grpc.UnaryInvoker {
+	return func(_ context.Context, _ string, _, _ interface{}, _ *grpc.ClientConn, options ...grpc.CallOption) error {
+		options[len(options)-1].(grpc.PeerCallOption).PeerAddr.Addr = address
+		return err
+	}
+}
+
+// A call that this program cancels does not replace the error that a member returned before.
+func TestCanceledCallIsNotNoted(t *testing.T) {
+	address := &net.TCPAddr{IP: net.IPv4(127, 0, 0, 1), Port: 2379}
+	m := newMembers(options{endpoints: []string{address.String()}}, t.Logf)
+	ctx, cancel := context.WithCancel(context.Background())
+	m.recordAnswer(ctx, "/a/b", nil, nil, nil, failsAt(address, rpctypes.ErrGRPCAuthFailed))
+	cancel()
+	m.recordAnswer(ctx, "/a/b", nil, nil, nil, failsAt(address, status.Error(codes.Canceled, "context canceled")))
+	if got, want := m.membersOf(rpctypes.ErrAuthFailed), " (127.0.0.1:2379)"; got != want {
+		t.Errorf("got %q, want %q", got, want)
 	}
 }
 

@@ -3,6 +3,7 @@ package main
 import (
 	"container/list"
 	"context"
+	"errors"
 	"fmt"
 	"sync"
 	"time"
@@ -33,8 +34,10 @@ type backend struct {
 	// The connection to csid, or nil.
 	kept         *connection
 	isConnecting bool
-	pace         pace
-	promptTime   time.Duration
+	// isStopped is true if no further call is sent, since the front ends.
+	isStopped  bool
+	pace       pace
+	promptTime time.Duration
 	// The moving average of the time that csid takes for a call.
 	usual time.Duration
 	// The time of the last reply.
@@ -144,11 +147,38 @@ func (b *backend) call(ctx context.Context, path string, message []byte) (frames
 	return got.answer, got.err
 }
 
+// errStopped is the error of a call after stop.
+var errStopped = errors.New("the front ends")
+
+// stop sends no further call, and waits at most for limit until csid has answered the calls on
+// their way. csid logs a failed read for a connection that is closed before its replies are read.
+func (b *backend) stop(limit time.Duration) {
+	b.mutex.Lock()
+	b.isStopped = true
+	conn := b.kept
+	if conn != nil && len(conn.sent) == 0 {
+		conn.end(nil)
+	}
+	b.mutex.Unlock()
+	if conn == nil {
+		return
+	}
+	select {
+	case <-conn.closed:
+	case <-time.After(limit):
+	}
+}
+
 // begin sends a call at once, or adds it to the calls that wait. A call waits if other calls wait,
 // if enoughSent calls are on their way, if there is no connection, or if mayBeSent returns false.
+// After stop a call ends at once.
 func (b *backend) begin(c *call) {
 	b.mutex.Lock()
 	defer b.mutex.Unlock()
+	if b.isStopped {
+		c.finish(frames.Reply{}, errStopped)
+		return
+	}
 	if b.kept != nil && b.waiting.Len() == 0 && len(b.kept.sent) < enoughSent && b.mayBeSent(c) {
 		b.kept.add(c)
 		b.write(b.kept)
@@ -216,8 +246,11 @@ func (limit lateReply) Error() string {
 }
 
 // send sends as many of the waiting calls as may be sent now. If calls wait and there is no
-// connection, it begins to connect.
+// connection, it begins to connect. After stop it sends nothing.
 func (b *backend) send() {
+	if b.isStopped {
+		return
+	}
 	for b.kept != nil && b.load(b.kept) {
 		b.write(b.kept)
 	}
@@ -310,7 +343,7 @@ func (b *backend) connect() {
 	defer b.mutex.Unlock()
 	b.isConnecting = false
 	b.dropEnded()
-	if b.waiting.Len() == 0 {
+	if b.waiting.Len() == 0 || b.isStopped {
 		return
 	}
 	b.pace.begins()
@@ -350,6 +383,7 @@ func (b *backend) fail(why error) {
 // read reads the replies of a connection and gives them to their calls. When the connection ends,
 // read closes it.
 func (b *backend) read(conn *connection) {
+	defer close(conn.closed)
 	for {
 		answer, err := conn.next()
 		if err == nil {
@@ -389,6 +423,8 @@ func (b *backend) answered(conn *connection, answer frames.Reply) error {
 		return errSpoiled
 	case len(conn.sent) == 0 && !isLast:
 		return errUnasked
+	case len(conn.sent) == 0 && b.isStopped:
+		return errStopped
 	case len(conn.sent) > 0 && conn.sent[0].stage == isOver:
 		b.limit(conn)
 	}

@@ -70,6 +70,8 @@ type connection struct {
 	// The reason why the front ended the connection. It is nil if the front did not, or if the
 	// error of reading shows the reason.
 	why error
+	// Closed after the connection has ended.
+	closed chan struct{}
 }
 
 // connect connects to the socket of csid. It never waits: if the queue of csid's socket is full, it
@@ -84,7 +86,7 @@ func connect(path string) (*connection, error) {
 		socket.Close()
 		return nil, err
 	}
-	return &connection{socket: socket, raw: raw, replies: frames.NewReplies(socket)}, nil
+	return &connection{socket: socket, raw: raw, replies: frames.NewReplies(socket), closed: make(chan struct{})}, nil
 }
 
 // next reads the next reply. If a byte comes while no call is on its way, it returns errUnasked.

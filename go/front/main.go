@@ -42,11 +42,13 @@ const (
 // version is the version of the repository. go/front/build takes it from the file VERSION.
 var version = "unknown"
 
-// The longest times that the front waits at its end: until its last lines are written, and after
-// the time of --grace until the last replies are sent.
+// The longest times that the front waits at its end: until its last lines are written, after the
+// time of --grace until the last replies are sent, and until csid has answered calls that no client
+// waits for.
 const (
 	lastLinesTime   = time.Second
 	lastRepliesTime = 100 * time.Millisecond
+	lastAnswersTime = time.Second
 )
 
 func main() {
@@ -136,7 +138,7 @@ func (f *front) serve(listener net.Listener) int {
 		return f.fails(err, noSocket)
 	case err := <-f.silent:
 		f.log.fails(err)
-		f.end(server)
+		f.endCalls(server)
 		return noReply
 	case <-f.stop:
 		return f.end(server)
@@ -150,10 +152,20 @@ func take(server *grpc.Server, listener net.Listener) error {
 	return errors.New("taking connections ended")
 }
 
-// end takes no further calls, and waits until the running calls end: then it returns done. After
-// the time of --grace, or at a second signal, it returns cutOff if a call still runs. A client that
-// hangs delays the end of its connection, and is no call.
+// end takes no further calls, and waits until the running calls have ended: then it returns done.
+// After the time of --grace, or at a second signal, it returns cutOff if a call still runs.
 func (f *front) end(server *grpc.Server) int {
+	if !f.endCalls(server) {
+		return cutOff
+	}
+	f.handler.backend.stop(lastAnswersTime)
+	return done
+}
+
+// endCalls waits until all calls of clients have ended, until a second signal, or for the time of
+// --grace. If a call still runs then, it logs this and returns false. A client that hangs delays
+// the end of its connection, and is no call.
+func (f *front) endCalls(server *grpc.Server) bool {
 	ended := make(chan struct{})
 	go func() {
 		f.control.stop()
@@ -163,18 +175,18 @@ func (f *front) end(server *grpc.Server) int {
 	}()
 	select {
 	case <-ended:
-		return done
+		return true
 	case <-f.stop:
 	case <-time.After(f.asked.grace):
 	}
 	select {
 	case <-ended:
-		return done
+		return true
 	case <-time.After(lastRepliesTime):
 	}
 	if f.handler.isIdle() {
-		return done
+		return true
 	}
 	f.log.cutOff()
-	return cutOff
+	return false
 }

@@ -35,10 +35,11 @@ type fake struct {
 	steps  []step
 	// The messages of the frames that were read, in hexadecimal, after their paths.
 	calls []string
-	// The number of connections that have ended, and the number of bytes of an incomplete frame at
-	// the end of the last one.
-	ends int
-	rest int
+	// The number of connections that have ended, the number of bytes of an incomplete frame at the
+	// end of the last one, and the error of a write of a reply.
+	ends  int
+	rest  int
+	error error
 	// Nothing is read from a connection until this channel is closed, if it is not nil.
 	deaf <-chan struct{}
 	// If set, each connection is closed before anything is read.
@@ -148,7 +149,11 @@ func (f *fake) answer(conn net.Conn, call string) bool {
 		io.Copy(io.Discard, conn)
 		return false
 	}
-	conn.Write(next.write)
+	if _, err := conn.Write(next.write); err != nil {
+		f.mutex.Lock()
+		defer f.mutex.Unlock()
+		f.error = err
+	}
 	return !next.close
 }
 

@@ -230,6 +230,30 @@ func TestTermWithAClientThatHangs(t *testing.T) {
 	}
 }
 
+// Before the front ends, it waits for the reply to a call that its caller gave up. So csid can
+// write the reply.
+func TestTermWithACallThatWasGivenUp(t *testing.T) {
+	t.Parallel()
+	let := make(chan struct{})
+	csid := startFake(t, step{wait: let, write: okFrame("01")})
+	process := processes.StartFront(t, csid.socket)
+	front := newClient(t, process.Socket)
+	if got := front.send(soon(t, 100*time.Millisecond), "/a/b", nil); got.code != codes.DeadlineExceeded {
+		t.Errorf("%v, wanted DEADLINE_EXCEEDED", got)
+	}
+	process.Terminate(t)
+	time.AfterFunc(100*time.Millisecond, func() { close(let) })
+	if status := process.Status(t); status != 0 {
+		t.Errorf("status %d, wanted 0", status)
+	}
+	csid.ended(t, 1)
+	csid.mutex.Lock()
+	defer csid.mutex.Unlock()
+	if csid.error != nil {
+		t.Errorf("csid wrote its reply: %v", csid.error)
+	}
+}
+
 // With --grace 0s the front ends with status 0 if no call runs.
 func TestTermWithoutGrace(t *testing.T) {
 	t.Parallel()
