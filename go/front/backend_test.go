@@ -47,7 +47,7 @@ func isCalled(conn net.Conn) bool {
 	return err == nil
 }
 
-func wants(t *testing.T, b *backend, code codes.Code) {
+func wantReply(t *testing.T, b *backend, code codes.Code) {
 	t.Helper()
 	ctx, cancel := context.WithTimeout(context.Background(), 10*time.Second)
 	defer cancel()
@@ -69,7 +69,7 @@ func TestUnreadCallIsSentAnew(t *testing.T) {
 	})
 	b := newBackend(path, time.Minute)
 	for round := 0; round < 3; round++ {
-		wants(t, b, codes.NotFound)
+		wantReply(t, b, codes.NotFound)
 	}
 	if made := atomic.LoadInt32(connections); made != 3 {
 		t.Errorf("%d connections for 3 calls", made)
@@ -107,7 +107,7 @@ func TestLateReply(t *testing.T) {
 		}
 		cancel()
 		time.AfterFunc(20*time.Millisecond, func() { gone <- struct{}{} })
-		wants(t, b, codes.InvalidArgument)
+		wantReply(t, b, codes.InvalidArgument)
 	}
 	if made := atomic.LoadInt32(connections); made != 1 {
 		t.Errorf("%d connections", made)
@@ -126,12 +126,12 @@ func TestFewConnections(t *testing.T) {
 		go func() {
 			defer func() { ended <- struct{}{} }()
 			for time.Since(begin) < 2*time.Second {
-				came := time.Now()
+				arrival := time.Now()
 				if _, err := b.call(context.Background(), "/a/b", nil); err != errUnanswered {
 					t.Errorf("%v", err)
 				}
 				atomic.AddInt64(&told, 1)
-				for spent := int64(time.Since(came)); spent > atomic.LoadInt64(&most); {
+				for spent := int64(time.Since(arrival)); spent > atomic.LoadInt64(&most); {
 					atomic.StoreInt64(&most, spent)
 				}
 			}
@@ -250,7 +250,7 @@ func TestUnsentCallIsSentAnew(t *testing.T) {
 	})
 	b := newBackend(path, time.Minute)
 	for round := 0; round < 3; round++ {
-		wants(t, b, codes.NotFound)
+		wantReply(t, b, codes.NotFound)
 		if conn := kept(b); conn != nil {
 			conn.socket.CloseWrite()
 		}
@@ -283,7 +283,7 @@ func TestEndedContext(t *testing.T) {
 func TestEndedContextOverAConnection(t *testing.T) {
 	path, _ := csid(t, answering(notFound))
 	b := newBackend(path, time.Minute)
-	wants(t, b, codes.NotFound)
+	wantReply(t, b, codes.NotFound)
 	ctx, cancel := context.WithCancel(context.Background())
 	cancel()
 	before := b.life.shown
@@ -315,7 +315,7 @@ func TestLateReplyThatNeverComes(t *testing.T) {
 		err.Error() != "an earlier call was given up, and no reply to it came within 100ms" {
 		t.Errorf("a call that came before: %v", err)
 	}
-	wants(t, b, codes.NotFound)
+	wantReply(t, b, codes.NotFound)
 	if made := atomic.LoadInt32(connections); made != 2 {
 		t.Errorf("%d connections", made)
 	}
@@ -346,7 +346,7 @@ func TestCallThatIsNeverRead(t *testing.T) {
 		t.Errorf("%v", err)
 	}
 	awaits(t, "its connection is closed", func() bool { return kept(b) == nil })
-	wants(t, b, codes.NotFound)
+	wantReply(t, b, codes.NotFound)
 	(<-unread).Close()
 }
 
@@ -374,7 +374,7 @@ func TestCallThatIsNeverSent(t *testing.T) {
 		conn.Write(notFound)
 	})
 	b := newBackend(path, time.Minute)
-	wants(t, b, codes.NotFound)
+	wantReply(t, b, codes.NotFound)
 	stuff(kept(b))
 	for round := 0; round < 2; round++ {
 		ctx, cancel := context.WithTimeout(context.Background(), 50*time.Millisecond)
@@ -387,7 +387,7 @@ func TestCallThatIsNeverSent(t *testing.T) {
 		t.Errorf("%d calls wait, %d are on their way", waiting, sent)
 	}
 	close(let)
-	wants(t, b, codes.NotFound)
+	wantReply(t, b, codes.NotFound)
 }
 
 // The pause doubles after each connection that cannot be made. The waiting calls end with the error
@@ -432,7 +432,7 @@ func TestLoneCallWithAShortDeadline(t *testing.T) {
 	path, _ := csid(t, answering(notFound))
 	b := newBackend(path, time.Minute)
 	b.usual = time.Hour
-	wants(t, b, codes.NotFound)
+	wantReply(t, b, codes.NotFound)
 }
 
 // After a failure and then a reply the pause is the least one again.
@@ -440,7 +440,7 @@ func TestReplyAfterAFailure(t *testing.T) {
 	path, _ := csid(t, answering([]byte{13, 0, 0, 0, 0, 0, 0, 0}))
 	b := newBackend(path, time.Minute)
 	b.fail(errUnanswered)
-	wants(t, b, codes.Internal)
+	wantReply(t, b, codes.Internal)
 	if b.pace.pause != leastPause {
 		t.Errorf("a pause of %v", b.pace.pause)
 	}
@@ -459,20 +459,20 @@ func TestConnectionThatEndsAfterAReply(t *testing.T) {
 	})
 	b := newBackend(path, time.Minute)
 	b.promptTime = 0
-	wants(t, b, codes.NotFound)
-	came := make(chan error)
+	wantReply(t, b, codes.NotFound)
+	errs := make(chan error)
 	go func() {
 		_, err := b.call(soon(t), "/a/b", nil)
-		came <- err
+		errs <- err
 	}()
 	underWay(t, b, 1)
 	go func() {
 		_, err := b.call(soon(t), "/a/b", nil)
-		came <- err
+		errs <- err
 	}()
 	awaits(t, "a call waits", func() bool { waiting, _ := count(b); return waiting == 1 })
 	close(let)
-	if first, second := <-came, <-came; first != errUnanswered || second != nil {
+	if first, second := <-errs, <-errs; first != errUnanswered || second != nil {
 		t.Errorf("the call that was on its way: %v, the one that waited: %v", first, second)
 	}
 	if b.pace.pause != leastPause {
@@ -490,7 +490,7 @@ func TestRefusedChange(t *testing.T) {
 	})
 	b := newBackend(path, time.Minute)
 	for round := int32(1); round <= 3; round++ {
-		wants(t, b, codes.Internal)
+		wantReply(t, b, codes.Internal)
 		awaits(t, "the connection is closed", func() bool { return kept(b) == nil })
 		if made := atomic.LoadInt32(connections); made != round {
 			t.Errorf("%d connections", made)

@@ -51,16 +51,16 @@ func changeOf(path string, message, body []byte) *change {
 	if !is {
 		return nil
 	}
-	asked := &change{
+	logged := &change{
 		Name:   textOf(message, fields.name, maxNameBytes),
 		Volume: textOf(message, fields.volume, maxNameBytes),
 		Node:   textOf(message, fields.node, maxNodeBytes),
 	}
 	if path == createVolume {
 		// Field 1 is the volume, and field 2 of the volume is its id.
-		asked.Volume = textOf(fieldOf(body, 1), 2, maxNameBytes)
+		logged.Volume = textOf(fieldOf(body, 1), 2, maxNameBytes)
 	}
-	return asked
+	return logged
 }
 
 // fieldOf returns the bytes of a field. It returns nil if the number is 0, the field is absent or

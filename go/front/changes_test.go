@@ -46,8 +46,8 @@ func TestShownChange(t *testing.T) {
 		t.Errorf("%v", got)
 	}
 	rows := []struct {
-		asked *change
-		want  string
+		change *change
+		want   string
 	}{
 		{nil, ""}, {&change{}, ""}, {&change{"pvc-1", "vol-1", "n1", nil}, " name=pvc-1 volume=vol-1 node=n1"},
 		{&change{Volume: "vol-1", sender: &sender{0, 77}}, " volume=vol-1 uid=0 pid=77"},
@@ -55,8 +55,8 @@ func TestShownChange(t *testing.T) {
 		{&change{Name: `a"`}, ` name="a\""`}, {&change{Node: "\xff"}, ` node="\xff"`},
 	}
 	for _, row := range rows {
-		if got := row.asked.words(); got != row.want {
-			t.Errorf("%v: %s, wanted %s", row.asked, got, row.want)
+		if got := row.change.words(); got != row.want {
+			t.Errorf("%v: %s, wanted %s", row.change, got, row.want)
 		}
 	}
 }

@@ -47,16 +47,16 @@ type control struct {
 }
 
 // startControl begins to serve the control socket. It returns nil without --control.
-func startControl(h *handler, asked options) (*control, error) {
-	if asked.control == "" {
+func startControl(h *handler, opts options) (*control, error) {
+	if opts.control == "" {
 		return nil, nil
 	}
-	socket, err := sockets.ListenForGroup(asked.control, asked.controlGroup)
+	socket, err := sockets.ListenForGroup(opts.control, opts.controlGroup)
 	if err != nil {
 		return nil, fmt.Errorf("--control: %w", err)
 	}
 	listener := limitListener(socket, maxControls, h.log.closedFor(viaControl, "--control", maxControls))
-	c := &control{handler: h, configuration: asked.configuration, listener: listener, conns: map[*clientConn]bool{}}
+	c := &control{handler: h, configuration: opts.configuration, listener: listener, conns: map[*clientConn]bool{}}
 	go c.serve()
 	return c, nil
 }
@@ -202,11 +202,11 @@ func (c *control) answer(conn *clientConn, request frames.Request) (frames.Reply
 	if err != nil {
 		why = status.Convert(refusal(ctx, csidName, err))
 	}
-	asked := removal.made(c.handler.loggedChange(request.Path, request.Message, answer.Body), why.Code())
-	if asked != nil {
-		asked.sender = senderOf(peer)
+	logged := removal.made(c.handler.loggedChange(request.Path, request.Message, answer.Body), why.Code())
+	if logged != nil {
+		logged.sender = senderOf(peer)
 	}
-	c.handler.ended(viaControl, request.Path, asked, why, time.Since(begin))
+	c.handler.record(viaControl, request.Path, logged, why, time.Since(begin))
 	return answer, err
 }
 

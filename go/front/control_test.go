@@ -42,14 +42,14 @@ func (w *written) String() string {
 // control socket, and the log.
 func controlled(t *testing.T, csid string) (*control, string, *written) {
 	t.Helper()
-	asked := options{csid: csid, late: time.Minute, waiting: 1, control: filepath.Join(t.TempDir(), "control.sock")}
+	opts := options{csid: csid, late: time.Minute, waiting: 1, control: filepath.Join(t.TempDir(), "control.sock")}
 	log := &written{}
-	c, err := startControl(newHandler(asked, newLogger(log, textLines)), asked)
+	c, err := startControl(newHandler(opts, newLogger(log, textLines)), opts)
 	if err != nil {
 		t.Fatal(err)
 	}
 	t.Cleanup(c.close)
-	return c, asked.control, log
+	return c, opts.control, log
 }
 
 func dial(t *testing.T, path string) *net.UnixConn {
@@ -249,14 +249,14 @@ func TestControlCallOnTheWay(t *testing.T) {
 		c, socket, _ := controlled(t, path)
 		b := c.handler.backend
 		b.setPromptTime(time.Hour)
-		wants(t, b, codes.NotFound)
-		conn, came := dial(t, socket), make(chan error, 1)
+		wantReply(t, b, codes.NotFound)
+		conn, errs := dial(t, socket), make(chan error, 1)
 		begins := []func(){
 			func() { conn.Write(fromHex(t, shortFrame)); conn.CloseWrite() },
 			func() {
 				go func() {
 					_, err := c.handler.ask(soon(t), "/a/b", nil)
-					came <- err
+					errs <- err
 				}()
 			},
 		}
@@ -272,7 +272,7 @@ func TestControlCallOnTheWay(t *testing.T) {
 		if got, err := io.ReadAll(conn); err != nil || !bytes.Equal(got, want) {
 			t.Errorf("control first %v: %x, %v", isControlFirst, got, err)
 		}
-		if err := <-came; status.Code(err) != wantCode {
+		if err := <-errs; status.Code(err) != wantCode {
 			t.Errorf("control first %v: of gRPC: %v", isControlFirst, err)
 		}
 		if made := atomic.LoadInt32(connections); made != 2 {

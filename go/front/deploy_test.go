@@ -16,7 +16,7 @@ func reportedSeries(t *testing.T) map[string]map[string]bool {
 	h := replying(t, "00 0000 00 00000005 0880808007")
 	h.standsBy = true
 	h.node = newNodePlugin(h.backend.path + ".absent")
-	h.metrics.ended(probe, codes.OK, time.Second)
+	h.metrics.observe(probe, codes.OK, time.Second)
 	listings := newListings(h, room)
 	listings.keep(&listing{})
 	families, err := newRegistry(h, nil, listings).Gather()

@@ -83,16 +83,16 @@ type handler struct {
 	isWaiting atomic.Bool
 }
 
-func newHandler(asked options, log *logger) *handler {
+func newHandler(opts options, log *logger) *handler {
 	h := &handler{
-		backend: newBackend(asked.csid, asked.late), messages: newMessages(asked.waiting << 20), metrics: newMetrics(),
+		backend: newBackend(opts.csid, opts.late), messages: newMessages(opts.waiting << 20), metrics: newMetrics(),
 		log:    log,
-		checks: make(chan struct{}, maxHealthChecks), hasHealth: asked.health, logChanges: asked.logChanges,
-		standsBy: asked.standby > 0,
+		checks: make(chan struct{}, maxHealthChecks), hasHealth: opts.health, logChanges: opts.logChanges,
+		standsBy: opts.standby > 0,
 	}
 	h.isWaiting.Store(h.standsBy)
-	if asked.node != "" {
-		h.node = newNodePlugin(asked.node)
+	if opts.node != "" {
+		h.node = newNodePlugin(opts.node)
 		h.metrics.begin(nodeMethods)
 	}
 	return h
@@ -120,22 +120,22 @@ func (h *handler) handle(_ interface{}, stream grpc.ServerStream) error {
 	defer h.running.Add(-1)
 	begin := time.Now()
 	path, _ := grpc.MethodFromServerStream(stream)
-	asked, err := h.answer(path, stream)
-	h.ended("", path, asked, status.Convert(err), time.Since(begin))
+	logged, err := h.answer(path, stream)
+	h.record("", path, logged, status.Convert(err), time.Since(begin))
 	return err
 }
 
 // isIdle reports whether no call of a client runs.
 func (h *handler) isIdle() bool { return h.running.Load() == 0 }
 
-// ended counts a call, and logs it if it was refused or if asked is not nil. socket is the name of
-// the socket, and is empty for gRPC.
-func (h *handler) ended(socket, path string, asked *change, why *status.Status, took time.Duration) {
-	h.metrics.ended(path, why.Code(), took)
+// record counts a call, and logs it if it was refused or if logged is not nil. socket is the name
+// of the socket, and is empty for gRPC.
+func (h *handler) record(socket, path string, logged *change, why *status.Status, took time.Duration) {
+	h.metrics.observe(path, why.Code(), took)
 	if why.Code() != codes.OK {
-		h.log.refuses(socket, path, asked, why, took)
-	} else if asked != nil {
-		h.log.changes(socket, path, asked, took)
+		h.log.logRefusal(socket, path, logged, why, took)
+	} else if logged != nil {
+		h.log.logChange(socket, path, logged, took)
 	}
 }
 
@@ -160,11 +160,11 @@ func (h *handler) answer(path string, stream grpc.ServerStream) (*change, error)
 	removal := h.removalOf(stream.Context(), path, message)
 	body, err := h.respond(stream.Context(), path, message)
 	h.metrics.waiting.Dec()
-	asked := removal.made(h.loggedChange(path, message, body), status.Code(err))
+	logged := removal.made(h.loggedChange(path, message, body), status.Code(err))
 	if err != nil {
-		return asked, err
+		return logged, err
 	}
-	return asked, stream.SendMsg(&body)
+	return logged, stream.SendMsg(&body)
 }
 
 // answerByNode answers a call of the Node service. Its message does not count in the limit of

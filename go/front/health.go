@@ -13,11 +13,11 @@ import (
 // services. The answer is NOT_SERVING if the check fails or takes longer than questionTime. An
 // unknown service is refused with NOT_FOUND.
 func (h *handler) checkHealth(ctx context.Context, message []byte) ([]byte, error) {
-	var asked grpc_health_v1.HealthCheckRequest
-	if err := proto.Unmarshal(message, &asked); err != nil {
+	var request grpc_health_v1.HealthCheckRequest
+	if err := proto.Unmarshal(message, &request); err != nil {
 		return nil, status.Error(codes.InvalidArgument, "malformed message")
 	}
-	check := h.checkOf(asked.Service)
+	check := h.checkOf(request.Service)
 	if check == nil {
 		return nil, status.Error(codes.NotFound, "unknown service")
 	}

@@ -98,19 +98,19 @@ func (l *listings) list(ctx context.Context) error {
 		if pages > 0 {
 			pause(ctx, l.pagePause)
 		}
-		asked, cancel := context.WithTimeout(ctx, questionTime)
+		askCtx, cancel := context.WithTimeout(ctx, questionTime)
 		var message []byte
 		if token != "" {
 			message = bytesField(2, []byte(token))
 		}
-		body, err := l.handler.ask(asked, listVolumes, message)
+		body, err := l.handler.ask(askCtx, listVolumes, message)
 		cancel()
 		if err == nil {
 			token, err = listed.addPage(body)
 		}
 		if err != nil {
 			if ctx.Err() == nil && !l.handler.isWaiting.Load() && !l.isAtStart(err) {
-				l.handler.log.refuses("", listVolumes, nil, status.Convert(err), time.Since(begin))
+				l.handler.log.logRefusal("", listVolumes, nil, status.Convert(err), time.Since(begin))
 			}
 			return err
 		}

@@ -33,14 +33,14 @@ var room = &configuration{[]pool{{"p1", 10485760, nil}, {"p2", 4194304, nil}, {"
 // the message that asks for each. The channel receives the path and the message of each call.
 func paging(t *testing.T, pages map[string]string) (*listings, chan string) {
 	t.Helper()
-	asked := make(chan string, 99)
+	messages := make(chan string, 99)
 	path, _ := csid(t, func(conn net.Conn) {
 		for requests := frames.NewRequests(conn); ; {
 			request, err := requests.Next()
 			if err != nil {
 				return
 			}
-			asked <- request.Path + " " + string(request.Message)
+			messages <- request.Path + " " + string(request.Message)
 			page, is := pages[string(request.Message)]
 			if !is {
 				return
@@ -51,13 +51,14 @@ func paging(t *testing.T, pages map[string]string) (*listings, chan string) {
 	h := newHandler(options{csid: path, late: time.Minute, waiting: 1}, newLogger(&written{}, textLines))
 	l := newListings(h, room)
 	l.pagePause, l.listingPause, l.failurePause = 0, 0, 0
-	return l, asked
+	return l, messages
 }
 
 // A listing adds up all pages up to the last one, whose token is empty, and pauses between two
 // pages.
 func TestListing(t *testing.T) {
-	l, asked := paging(t, map[string]string{"": entry1 + "120131", "\x12\x011": entry2 + "120132", "\x12\x012": entry3})
+	l, messages := paging(t,
+		map[string]string{"": entry1 + "120131", "\x12\x011": entry2 + "120132", "\x12\x012": entry3})
 	l.pagePause = 20 * time.Millisecond
 	begin := time.Now()
 	if err := l.list(context.Background()); err != nil {
@@ -70,7 +71,7 @@ func TestListing(t *testing.T) {
 		t.Errorf("%v", got)
 	}
 	for _, want := range []string{"", "\x12\x011", "\x12\x012"} {
-		if message := <-asked; message != listVolumes+" "+want {
+		if message := <-messages; message != listVolumes+" "+want {
 			t.Errorf("asked %q, wanted %q", message, want)
 		}
 	}
@@ -115,9 +116,9 @@ func TestListingAtTheStart(t *testing.T) {
 
 // A csid with endless pages is asked for a limited number of them.
 func TestListingWithoutEnd(t *testing.T) {
-	l, asked := paging(t, map[string]string{"": "120131", "\x12\x011": "120131"})
+	l, messages := paging(t, map[string]string{"": "120131", "\x12\x011": "120131"})
 	go func() {
-		for range asked {
+		for range messages {
 		}
 	}()
 	if err := l.list(context.Background()); err == nil || !strings.Contains(err.Error(), "no end") || l.kept() != nil {
@@ -128,7 +129,7 @@ func TestListingWithoutEnd(t *testing.T) {
 // There is a pause between two pages, and between two listings. A front that waits for csid makes
 // no listing.
 func TestPaceOfListings(t *testing.T) {
-	l, asked := paging(t, map[string]string{"": "120131", "\x12\x011": ""})
+	l, messages := paging(t, map[string]string{"": "120131", "\x12\x011": ""})
 	l.pagePause, l.listingPause, l.failurePause = 30*time.Millisecond, 100*time.Millisecond, time.Millisecond
 	l.handler.isWaiting.Store(true)
 	ctx, cancel := context.WithCancel(context.Background())
@@ -138,13 +139,13 @@ func TestPaceOfListings(t *testing.T) {
 		close(ended)
 	}()
 	time.Sleep(50 * time.Millisecond)
-	if len(asked) > 0 {
+	if len(messages) > 0 {
 		t.Error("it asked while the front stood by")
 	}
 	begin := time.Now()
 	l.handler.isWaiting.Store(false)
 	for page := 0; page < 6; page++ {
-		<-asked
+		<-messages
 	}
 	if spent := time.Since(begin); spent < 230*time.Millisecond {
 		t.Errorf("three listings of two pages took %v", spent)
@@ -187,12 +188,12 @@ csid_front_pool_size_bytes{pool="p1"} 1.048576e+07
 csid_front_pool_size_bytes{pool="p2"} 4.194304e+06
 csid_front_pool_size_bytes{pool="p3"} 1.048576e+06
 `
-	wantsMetrics(t, l, sizes)
+	wantMetrics(t, l, sizes)
 	if err := l.list(context.Background()); err != nil {
 		t.Fatal(err)
 	}
 	l.kept().endedAt = time.UnixMilli(1234500)
-	wantsMetrics(t, l, sizes+`
+	wantMetrics(t, l, sizes+`
 csid_front_listing_timestamp_seconds 1234.5
 csid_front_volumes 3
 csid_front_node_attachments{node="n1"} 2
@@ -209,9 +210,9 @@ csid_front_pool_volumes{pool="p3"} 0
 `)
 }
 
-// wantsMetrics compares the lines of all series that listings report with the wanted lines, in any
+// wantMetrics compares the lines of all series that listings report with the wanted lines, in any
 // order.
-func wantsMetrics(t *testing.T, l *listings, want string) {
+func wantMetrics(t *testing.T, l *listings, want string) {
 	t.Helper()
 	registry := prometheus.NewRegistry()
 	registry.MustRegister(l)

@@ -116,8 +116,8 @@ func (l *logger) leavesOut(counts map[string]uint64) {
 	l.write(text, entry{Level: logqueue.Warn, Message: "lines left out", LeftOut: counts})
 }
 
-// fails logs why the front ends.
-func (l *logger) fails(err error) {
+// logFailure logs why the front ends.
+func (l *logger) logFailure(err error) {
 	l.write(err.Error(), entry{Level: logqueue.Error, Message: "the front ends", Error: err.Error()})
 }
 
@@ -146,26 +146,26 @@ func (l *logger) isReady() {
 	l.write(text, entry{Level: logqueue.Info, Message: text})
 }
 
-// refuses logs a call that was refused or got no reply. asked has the names and ids of the volume
-// and node; it is nil if changes are not logged. No other part of the message is logged, since it
-// may hold secrets.
-func (l *logger) refuses(socket, path string, asked *change, why *status.Status, took time.Duration) {
-	l.writeFew(endedLine(entry{Level: logqueue.Warn, Message: "call refused", Socket: socket}, path, asked, why, took))
+// logRefusal logs a call that was refused or got no reply. logged has the names and ids of the
+// volume and node; it is nil if changes are not logged. No other part of the message is logged,
+// since it may hold secrets.
+func (l *logger) logRefusal(socket, path string, logged *change, why *status.Status, took time.Duration) {
+	l.writeFew(endedLine(entry{Level: logqueue.Warn, Message: "call refused", Socket: socket}, path, logged, why, took))
 }
 
-// changes logs a call for a change that csid answered OK. The call may have changed nothing, for
+// logChange logs a call for a change that csid answered OK. The call may have changed nothing, for
 // example a repeated create. The limit of writeFew does not apply to such lines.
-func (l *logger) changes(socket, path string, asked *change, took time.Duration) {
-	l.write(endedLine(entry{Level: logqueue.Info, Message: "change", Socket: socket}, path, asked,
+func (l *logger) logChange(socket, path string, logged *change, took time.Duration) {
+	l.write(endedLine(entry{Level: logqueue.Info, Message: "change", Socket: socket}, path, logged,
 		status.New(codes.OK, ""), took))
 }
 
 // endedLine returns the line about a call, as text, and as an entry for JSON.
-func endedLine(line entry, path string, asked *change, why *status.Status, took time.Duration) (string, entry) {
-	line.endedCall, line.change = &endedCall{shownPath(path), why.Code(), why.Message(), took.Milliseconds()}, asked
+func endedLine(line entry, path string, logged *change, why *status.Status, took time.Duration) (string, entry) {
+	line.endedCall, line.change = &endedCall{shownPath(path), why.Code(), why.Message(), took.Milliseconds()}, logged
 	call := line.endedCall
 	return fmt.Sprintf("%s%s %d %q %d ms%s", via(line.Socket), call.Path, call.Code, call.Text, call.Milliseconds,
-		asked.words()), line
+		logged.words()), line
 }
 
 // malformed logs a malformed frame that came over the socket with this name.

@@ -40,8 +40,8 @@ func TestTimedLines(t *testing.T) {
 	var text strings.Builder
 	l := newLog(&text, textLines, true)
 	l.isReady()
-	l.refuses("", "/a/b", nil, status.New(codes.NotFound, "volume not found"), 0)
-	l.fails(errors.New("no socket"))
+	l.logRefusal("", "/a/b", nil, status.New(codes.NotFound, "volume not found"), 0)
+	l.logFailure(errors.New("no socket"))
 	l.queue.End(10 * time.Second)
 	const stamp = `[0-9]{4}-[0-9]{2}-[0-9]{2}T[0-9]{2}:[0-9]{2}:[0-9]{2}Z `
 	if want := regexp.MustCompile("^" + stamp + "info front: csid is ready\n" + stamp +
@@ -61,7 +61,7 @@ var lineCases = []struct {
 	want fields
 }{
 	{
-		func(l *logger) { l.fails(errors.New(`no "socket"`)) },
+		func(l *logger) { l.logFailure(errors.New(`no "socket"`)) },
 		"front: no \"socket\"\n",
 		fields{"level": "error", "message": "the front ends", "error": `no "socket"`},
 	},
@@ -87,7 +87,7 @@ var lineCases = []struct {
 	},
 	{
 		func(l *logger) {
-			l.refuses("", "/a/b", nil, status.New(codes.FailedPrecondition, "volume is in use"),
+			l.logRefusal("", "/a/b", nil, status.New(codes.FailedPrecondition, "volume is in use"),
 				1999*time.Microsecond)
 		},
 		"front: /a/b 9 \"volume is in use\" 1 ms\n",
@@ -95,14 +95,14 @@ var lineCases = []struct {
 			"milliseconds": 1.0},
 	},
 	{
-		func(l *logger) { l.refuses("", "/a/b", nil, status.New(codes.Unavailable, "\"a\"\n"), 0) },
+		func(l *logger) { l.logRefusal("", "/a/b", nil, status.New(codes.Unavailable, "\"a\"\n"), 0) },
 		"front: /a/b 14 \"\\\"a\\\"\\n\" 0 ms\n",
 		fields{"level": "warn", "message": "call refused", "path": "/a/b", "code": 14.0, "text": "\"a\"\n",
 			"milliseconds": 0.0},
 	},
 	{
 		func(l *logger) {
-			l.refuses("control", "/a/b", &change{Volume: "vol-1", Node: "n 1"},
+			l.logRefusal("control", "/a/b", &change{Volume: "vol-1", Node: "n 1"},
 				status.New(codes.NotFound, "node not found"), 0)
 		},
 		"front: control /a/b 5 \"node not found\" 0 ms volume=vol-1 node=\"n 1\"\n",
@@ -111,7 +111,7 @@ var lineCases = []struct {
 			"volume": "vol-1", "node": "n 1"},
 	},
 	{
-		func(l *logger) { l.changes("", "/a/b", &change{Name: "pvc-1", Volume: "vol-1"}, 2*time.Millisecond) },
+		func(l *logger) { l.logChange("", "/a/b", &change{Name: "pvc-1", Volume: "vol-1"}, 2*time.Millisecond) },
 		"front: /a/b 0 \"\" 2 ms name=pvc-1 volume=vol-1\n",
 		fields{"level": "info", "message": "change", "path": "/a/b", "code": 0.0, "text": "", "milliseconds": 2.0,
 			"name": "pvc-1", "volume": "vol-1"},
@@ -122,14 +122,14 @@ var lineCases = []struct {
 		fields{"level": "warn", "message": "malformed call", "socket": "control", "error": "bad flag at byte 3"},
 	},
 	{
-		func(l *logger) { l.refuses("", "/a\n", nil, status.New(codes.Unimplemented, ""), 0) },
+		func(l *logger) { l.logRefusal("", "/a\n", nil, status.New(codes.Unimplemented, ""), 0) },
 		"front: \"/a\\n\" 12 \"\" 0 ms\n",
 		fields{"level": "warn", "message": "call refused", "path": `"/a\n"`, "code": 12.0, "text": "",
 			"milliseconds": 0.0},
 	},
 	{
 		func(l *logger) {
-			l.refuses("", "/"+strings.Repeat("a", 200), nil, status.New(codes.Unimplemented, ""), 0)
+			l.logRefusal("", "/"+strings.Repeat("a", 200), nil, status.New(codes.Unimplemented, ""), 0)
 		},
 		"front: \"/" + strings.Repeat("a", 127) + "\" 12 \"\" 0 ms\n",
 		fields{"level": "warn", "message": "call refused", "path": `"/` + strings.Repeat("a", 127) +

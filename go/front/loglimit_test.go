@@ -22,8 +22,8 @@ func passed(l *lineLimit, lines int, kind string, now time.Time) (count int) {
 	return count
 }
 
-// wantsCounts waits for a report, and compares its counts.
-func wantsCounts(t *testing.T, reports <-chan map[string]uint64, want map[string]uint64) {
+// wantCounts waits for a report, and compares its counts.
+func wantCounts(t *testing.T, reports <-chan map[string]uint64, want map[string]uint64) {
 	t.Helper()
 	select {
 	case got := <-reports:
@@ -48,12 +48,12 @@ func TestLinesBeyondTen(t *testing.T) {
 	}
 	l.finish(begin.Add(time.Second))
 	l.finish(begin.Add(time.Second))
-	wantsCounts(t, reports, map[string]uint64{"a": 2, "b": 3})
+	wantCounts(t, reports, map[string]uint64{"a": 2, "b": 3})
 	if count := passed(l, 3, "a", begin.Add(3*time.Second/2)); count != 0 {
 		t.Errorf("%d passed after a report", count)
 	}
 	l.finish(begin.Add(2 * time.Second))
-	wantsCounts(t, reports, map[string]uint64{"a": 3})
+	wantCounts(t, reports, map[string]uint64{"a": 3})
 	if count := passed(l, 12, "a", begin.Add(3*time.Second)); count != 10 {
 		t.Errorf("%d passed after a second without lines", count)
 	}
@@ -66,7 +66,7 @@ func TestLinesBeyondTen(t *testing.T) {
 func TestReportOfLinesThatWereLeftOut(t *testing.T) {
 	l, reports := counted()
 	passed(l, 12, "a", time.Now())
-	wantsCounts(t, reports, map[string]uint64{"a": 2})
+	wantCounts(t, reports, map[string]uint64{"a": 2})
 }
 
 // If the limit is nil, as in tests, each line passes.

@@ -27,16 +27,16 @@ import (
 	_ "fomaheti/streams"
 )
 
-// The exit statuses: done after all calls have ended and for --help and --version, cutOff if calls
-// still ran, badWords for arguments that are refused, noReply if csid was silent for the time of
-// --standby, noSocket if a socket cannot be made or taking connections fails. csid uses the same
-// numbers for the same outcomes, except for 3.
+// The exit statuses: exitOK after all calls have ended and for --help and --version, exitCutOff if
+// calls still ran, exitUsage for arguments that are refused, exitNoReply if csid was silent for the
+// time of --standby, exitNoSocket if a socket cannot be made or taking connections fails. csid uses
+// the same numbers for the same outcomes, except for 3.
 const (
-	done     = 0
-	cutOff   = 1
-	badWords = 2
-	noReply  = 3
-	noSocket = 7
+	exitOK       = 0
+	exitCutOff   = 1
+	exitUsage    = 2
+	exitNoReply  = 3
+	exitNoSocket = 7
 )
 
 // version is the version of the repository. go/front/build takes it from the file VERSION.
@@ -55,10 +55,10 @@ func main() {
 	// The front goes on if the reader of standard error is gone.
 	signal.Ignore(syscall.SIGPIPE)
 	useOneProcessor()
-	asked, err := readOptions(os.Args[1:], os.Getenv("CSI_ENDPOINT"), os.Stdout)
+	opts, err := readOptions(os.Args[1:], os.Getenv("CSI_ENDPOINT"), os.Stdout)
 	// A refusal of the arguments is one line without a time, as in any command.
-	log := newLog(os.Stderr, asked.logFormat, err == nil && !logqueue.HasJournal())
-	status := run(asked, err, log)
+	log := newLog(os.Stderr, opts.logFormat, err == nil && !logqueue.HasJournal())
+	status := run(opts, err, log)
 	log.end(lastLinesTime)
 	os.Exit(status)
 }
@@ -74,43 +74,43 @@ func useOneProcessor() {
 
 // run runs the front with the options, or reports err, the reason why they were refused. It returns
 // the exit status.
-func run(asked options, err error, log *logger) int {
+func run(opts options, err error, log *logger) int {
 	if errors.Is(err, flag.ErrHelp) {
-		return done
+		return exitOK
 	}
 	if err != nil {
-		log.fails(err)
-		return badWords
+		log.logFailure(err)
+		return exitUsage
 	}
-	if asked.version {
+	if opts.version {
 		// The packages of packaging/ install the program under a longer name.
 		fmt.Println(filepath.Base(os.Args[0]), version)
-		return done
+		return exitOK
 	}
-	f := &front{asked, log, newHandler(asked, log), nil, make(chan os.Signal, 2), make(chan error, 2),
+	f := &front{opts, log, newHandler(opts, log), nil, make(chan os.Signal, 2), make(chan error, 2),
 		make(chan error, 1)}
 	signal.Notify(f.stop, syscall.SIGTERM, syscall.SIGINT)
-	if f.control, err = startControl(f.handler, asked); err != nil {
-		return f.fails(err, noSocket)
+	if f.control, err = startControl(f.handler, opts); err != nil {
+		return f.fail(err, exitNoSocket)
 	}
 	defer f.control.close()
-	if asked.standby > 0 {
+	if opts.standby > 0 {
 		return f.standBy()
 	}
-	listener, err := sockets.Listen(asked.listen)
+	listener, err := sockets.Listen(opts.listen)
 	if err != nil {
-		return f.fails(err, noSocket)
+		return f.fail(err, exitNoSocket)
 	}
 	defer listener.Close()
-	if err := startMonitor(f.handler, asked, f.failed); err != nil {
-		return f.fails(err, noSocket)
+	if err := startMonitor(f.handler, opts, f.failed); err != nil {
+		return f.fail(err, exitNoSocket)
 	}
 	return f.serve(listener)
 }
 
 // front has the parts of the program that answer calls, and the channels for the reasons to end.
 type front struct {
-	asked   options
+	opts    options
 	log     *logger
 	handler *handler
 	control *control
@@ -122,9 +122,9 @@ type front struct {
 	silent chan error
 }
 
-// fails logs why the front ends, and returns status, the exit status.
-func (f *front) fails(why error, status int) int {
-	f.log.fails(why)
+// fail logs why the front ends, and returns status, the exit status.
+func (f *front) fail(why error, status int) int {
+	f.log.logFailure(why)
 	return status
 }
 
@@ -135,11 +135,11 @@ func (f *front) serve(listener net.Listener) int {
 	go func() { f.failed <- take(server, grpcListener{clients}) }()
 	select {
 	case err := <-f.failed:
-		return f.fails(err, noSocket)
+		return f.fail(err, exitNoSocket)
 	case err := <-f.silent:
-		f.log.fails(err)
+		f.log.logFailure(err)
 		f.endCalls(server)
-		return noReply
+		return exitNoReply
 	case <-f.stop:
 		return f.end(server)
 	}
@@ -152,14 +152,14 @@ func take(server *grpc.Server, listener net.Listener) error {
 	return errors.New("taking connections ended")
 }
 
-// end takes no further calls, and waits until the running calls have ended: then it returns done.
-// After the time of --grace, or at a second signal, it returns cutOff if a call still runs.
+// end takes no further calls, and waits until the running calls have ended: then it returns exitOK.
+// After the time of --grace, or at a second signal, it returns exitCutOff if a call still runs.
 func (f *front) end(server *grpc.Server) int {
 	if !f.endCalls(server) {
-		return cutOff
+		return exitCutOff
 	}
 	f.handler.backend.stop(lastAnswersTime)
-	return done
+	return exitOK
 }
 
 // endCalls waits until all calls of clients have ended, until a second signal, or for the time of
@@ -177,7 +177,7 @@ func (f *front) endCalls(server *grpc.Server) bool {
 	case <-ended:
 		return true
 	case <-f.stop:
-	case <-time.After(f.asked.grace):
+	case <-time.After(f.opts.grace):
 	}
 	select {
 	case <-ended:

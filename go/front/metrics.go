@@ -78,10 +78,10 @@ func newCounter(name, help string) prometheus.Counter {
 	return prometheus.NewCounter(prometheus.CounterOpts{Namespace: namespace, Name: name, Help: help})
 }
 
-// ended counts a call that ended with this code, and records how long it took. A node plugin may
+// observe counts a call that ended with this code, and records how long it took. A node plugin may
 // answer any number as a code. Those that gRPC does not have count as UNKNOWN, since each code is a
 // series.
-func (m *metrics) ended(path string, code codes.Code, took time.Duration) {
+func (m *metrics) observe(path string, code codes.Code, took time.Duration) {
 	if code > codes.Unauthenticated {
 		code = codes.Unknown
 	}

@@ -63,7 +63,7 @@ func TestConventions(t *testing.T) {
 	h := inFront(path + ".absent")
 	h.standsBy = true
 	h.node = newNodePlugin(path + ".absent")
-	h.metrics.ended(probe, codes.OK, time.Second)
+	h.metrics.observe(probe, codes.OK, time.Second)
 	faults, err := testutil.GatherAndLint(newRegistry(h, nil, newListings(h, room)))
 	if err != nil || len(faults) > 0 {
 		t.Errorf("%v, %v", faults, err)
@@ -77,10 +77,10 @@ func TestCodesThatGRPCDoesNotHave(t *testing.T) {
 		t.Run(path, func(t *testing.T) {
 			m := newMetrics()
 			m.begin(nodeMethods)
-			m.ended(path, codes.Unknown, time.Second)
+			m.observe(path, codes.Unknown, time.Second)
 			before := testutil.CollectAndCount(m.calls)
 			for code := codes.Unauthenticated + 1; code < 100; code++ {
-				m.ended(path, code, time.Second)
+				m.observe(path, code, time.Second)
 			}
 			if after := testutil.CollectAndCount(m.calls); after != before {
 				t.Errorf("%d series, and %d before", after, before)
@@ -106,8 +106,8 @@ func TestCountedConnections(t *testing.T) {
 		}
 	}
 	b.path = path
-	wants(t, b, codes.NotFound)
-	wants(t, b, codes.NotFound)
+	wantReply(t, b, codes.NotFound)
+	wantReply(t, b, codes.NotFound)
 	if failed, made := testutil.ToFloat64(b.failures), testutil.ToFloat64(b.connections); failed != 2 || made != 1 {
 		t.Errorf("%v attempts failed, %v connections were made", failed, made)
 	}

@@ -79,22 +79,22 @@ func duringRequests(next http.Handler) http.Handler {
 
 // startMonitor begins to serve --metrics, if the option is given. If serving fails later, the
 // reason is sent to failed, and the front must end.
-func startMonitor(h *handler, asked options, failed chan<- error) error {
-	if asked.metrics == "" {
+func startMonitor(h *handler, opts options, failed chan<- error) error {
+	if opts.metrics == "" {
 		return nil
 	}
-	listener, err := net.Listen("tcp", asked.metrics)
+	listener, err := net.Listen("tcp", opts.metrics)
 	if err != nil {
 		return fmt.Errorf("--metrics: %w", err)
 	}
 	var all *listings
-	if asked.configuration != nil {
-		all = newListings(h, asked.configuration)
+	if opts.configuration != nil {
+		all = newListings(h, opts.configuration)
 		go all.run(context.Background())
 	}
 	h.log.listens(listener.Addr().String())
 	const who = "HTTP server"
-	server := newMonitorServer(newMonitor(h, asked.topologies, all), log.New(saying{h.log, who}, "", 0))
+	server := newMonitorServer(newMonitor(h, opts.topologies, all), log.New(saying{h.log, who}, "", 0))
 	watchers := limitListener(listener, maxWatchers, h.log.closedFor(who, "--metrics", maxWatchers))
 	go func() { failed <- fmt.Errorf("telling metrics: %w", server.Serve(watchers)) }()
 	return nil

@@ -77,7 +77,7 @@ func (n *nodePlugin) invoke(ctx context.Context, path string, message []byte) ([
 }
 
 // connect makes a connection, and waits at most questionTime until the plugin speaks HTTP/2. It
-// fails at once if the socket is missing or has no listener.
+// fail at once if the socket is missing or has no listener.
 func (n *nodePlugin) connect(ctx context.Context) (*grpc.ClientConn, error) {
 	ctx, cancel := context.WithTimeout(ctx, questionTime)
 	defer cancel()

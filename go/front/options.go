@@ -56,125 +56,125 @@ type options struct {
 // if --listen is not given. For --help it writes the usage to shown, and returns flag.ErrHelp. With
 // --version it checks no other value.
 func readOptions(given []string, endpoint string, shown io.Writer) (options, error) {
-	var asked options
+	var opts options
 	flags := flag.NewFlagSet("front", flag.ContinueOnError)
 	flags.SetOutput(io.Discard)
-	flags.StringVar(&asked.listen, "listen", endpoint,
+	flags.StringVar(&opts.listen, "listen", endpoint,
 		"the `PATH` of the socket for the orchestrator, also as unix://PATH; without it CSI_ENDPOINT")
-	flags.StringVar(&asked.csid, "csid", "", "the `PATH` of the socket that csid serves")
-	flags.StringVar(&asked.node, "node", "",
+	flags.StringVar(&opts.csid, "csid", "", "the `PATH` of the socket that csid serves")
+	flags.StringVar(&opts.node, "node", "",
 		"the `PATH` of the socket of a node plugin, which answers the calls of the Node service")
-	flags.DurationVar(&asked.grace, "grace", 20*time.Second, "how long calls may go on after SIGTERM, as 20s: a `TIME`")
-	flags.DurationVar(&asked.late, "late", time.Minute,
+	flags.DurationVar(&opts.grace, "grace", 20*time.Second, "how long calls may go on after SIGTERM, as 20s: a `TIME`")
+	flags.DurationVar(&opts.late, "late", time.Minute,
 		"how long csid may take for the reply to a call that was given up, before its connection is closed: a `TIME`")
-	flags.IntVar(&asked.waiting, "waiting", 64, "how many `MIB` the messages of all calls that wait may have together")
-	flags.StringVar(&asked.logFormat, "log-format", textLines,
+	flags.IntVar(&opts.waiting, "waiting", 64, "how many `MIB` the messages of all calls that wait may have together")
+	flags.StringVar(&opts.logFormat, "log-format", textLines,
 		"the `FORMAT` of lines on standard error: text, or json for one object a line")
-	flags.BoolVar(&asked.logChanges, "log-changes", false,
+	flags.BoolVar(&opts.logChanges, "log-changes", false,
 		"log each call that changes volumes, with the name or id of its volume and its node")
-	flags.StringVar(&asked.control, "control", "",
+	flags.StringVar(&opts.control, "control", "",
 		"the `PATH` of a socket on which calls are taken as csid takes them, for csictl")
-	flags.StringVar(&asked.controlGroup, "control-group", "",
+	flags.StringVar(&opts.controlGroup, "control-group", "",
 		"the `NAME` or number of the group that may connect to the socket of --control; without it its owner alone may")
 	flags.Func("standby", "make the socket only once csid is ready, and end where csid answered nothing for so long, "+
-		"1s to 1h: a `TIME`", asked.setStandby)
-	flags.BoolVar(&asked.health, "health", false, "answer gRPC's health service: Check, by a Probe")
-	flags.StringVar(&asked.metrics, "metrics", "",
+		"1s to 1h: a `TIME`", opts.setStandby)
+	flags.BoolVar(&opts.health, "health", false, "answer gRPC's health service: Check, by a Probe")
+	flags.StringVar(&opts.metrics, "metrics", "",
 		"the `HOST:PORT` on which /metrics and /healthz are answered over HTTP; port 0 is any that is free, and the "+
 			"log says which")
 	flags.Func("metrics-topology",
 		"a topology whose available capacity is one of the metrics, as `KEY=VALUE,..`; may be given again",
-		asked.addTopology)
+		opts.addTopology)
 	flags.Func("config", "the configuration of csid, a `FILE`: what its pools and nodes have room for, and what all "+
-		"volumes take of it, are among the metrics, and csictl shows them", asked.setConfiguration)
-	flags.BoolVar(&asked.version, "version", false, "print the version, and end")
+		"volumes take of it, are among the metrics, and csictl shows them", opts.setConfiguration)
+	flags.BoolVar(&opts.version, "version", false, "print the version, and end")
 	if err := words.Parse(flags, given, usage, shown); err != nil {
 		return options{}, err
 	}
-	if asked.version {
-		return asked, nil
+	if opts.version {
+		return opts, nil
 	}
-	return checked(asked)
+	return checked(opts)
 }
 
 // checked returns the options with sockets as paths. It fails if a value is out of range or options
 // contradict each other.
-func checked(asked options) (options, error) {
+func checked(opts options) (options, error) {
 	var err error
-	if asked.listen, err = socketPath(asked.listen, "--listen or CSI_ENDPOINT"); err != nil {
+	if opts.listen, err = socketPath(opts.listen, "--listen or CSI_ENDPOINT"); err != nil {
 		return options{}, err
 	}
-	if asked.csid, err = socketPath(asked.csid, "--csid"); err != nil {
+	if opts.csid, err = socketPath(opts.csid, "--csid"); err != nil {
 		return options{}, err
 	}
-	if asked.listen == asked.csid {
+	if opts.listen == opts.csid {
 		return options{}, errors.New("the two sockets are one")
 	}
-	if asked, err = checkNode(asked); err != nil {
+	if opts, err = checkNode(opts); err != nil {
 		return options{}, err
 	}
-	if asked, err = checkControl(asked); err != nil {
+	if opts, err = checkControl(opts); err != nil {
 		return options{}, err
 	}
-	if asked.grace < 0 {
-		return options{}, fmt.Errorf("--grace: %v is below 0", asked.grace)
+	if opts.grace < 0 {
+		return options{}, fmt.Errorf("--grace: %v is below 0", opts.grace)
 	}
-	if asked.late < 0 {
-		return options{}, fmt.Errorf("--late: %v is below 0", asked.late)
+	if opts.late < 0 {
+		return options{}, fmt.Errorf("--late: %v is below 0", opts.late)
 	}
-	if asked.waiting < 1 || asked.waiting > maxWaiting {
-		return options{}, fmt.Errorf("--waiting: %d is not 1 to %d", asked.waiting, maxWaiting)
+	if opts.waiting < 1 || opts.waiting > maxWaiting {
+		return options{}, fmt.Errorf("--waiting: %d is not 1 to %d", opts.waiting, maxWaiting)
 	}
-	if asked.logFormat != textLines && asked.logFormat != jsonLines {
-		return options{}, fmt.Errorf("--log-format: %q is neither text nor json", asked.logFormat)
+	if opts.logFormat != textLines && opts.logFormat != jsonLines {
+		return options{}, fmt.Errorf("--log-format: %q is neither text nor json", opts.logFormat)
 	}
-	if err := checkMetrics(asked); err != nil {
+	if err := checkMetrics(opts); err != nil {
 		return options{}, err
 	}
-	return asked, nil
+	return opts, nil
 }
 
-func checkNode(asked options) (options, error) {
-	if asked.node == "" {
-		return asked, nil
+func checkNode(opts options) (options, error) {
+	if opts.node == "" {
+		return opts, nil
 	}
 	var err error
-	if asked.node, err = socketPath(asked.node, "--node"); err != nil {
+	if opts.node, err = socketPath(opts.node, "--node"); err != nil {
 		return options{}, err
 	}
-	if asked.node == asked.csid || asked.node == asked.listen {
+	if opts.node == opts.csid || opts.node == opts.listen {
 		return options{}, errors.New("--node: it is one of the other sockets")
 	}
-	return asked, nil
+	return opts, nil
 }
 
-func checkControl(asked options) (options, error) {
-	if asked.control == "" {
-		if asked.controlGroup != "" {
+func checkControl(opts options) (options, error) {
+	if opts.control == "" {
+		if opts.controlGroup != "" {
 			return options{}, errors.New("--control-group: there is no --control")
 		}
-		return asked, nil
+		return opts, nil
 	}
 	var err error
-	if asked.control, err = socketPath(asked.control, "--control"); err != nil {
+	if opts.control, err = socketPath(opts.control, "--control"); err != nil {
 		return options{}, err
 	}
-	if asked.control == asked.csid || asked.control == asked.listen || asked.control == asked.node {
+	if opts.control == opts.csid || opts.control == opts.listen || opts.control == opts.node {
 		return options{}, errors.New("--control: it is one of the other sockets")
 	}
-	return asked, nil
+	return opts, nil
 }
 
-func checkMetrics(asked options) error {
-	if asked.metrics == "" {
-		if len(asked.topologies) > 0 {
+func checkMetrics(opts options) error {
+	if opts.metrics == "" {
+		if len(opts.topologies) > 0 {
 			return errors.New("--metrics-topology: there is no --metrics")
 		}
-		return checkConfiguration(asked)
+		return checkConfiguration(opts)
 	}
-	_, port, err := net.SplitHostPort(asked.metrics)
+	_, port, err := net.SplitHostPort(opts.metrics)
 	if err != nil {
-		return fmt.Errorf("--metrics: %q is no HOST:PORT", asked.metrics)
+		return fmt.Errorf("--metrics: %q is no HOST:PORT", opts.metrics)
 	}
 	if _, err := strconv.ParseUint(port, 10, 16); err != nil {
 		return fmt.Errorf("--metrics: %q is no port from 0 to 65535", port)
@@ -184,41 +184,41 @@ func checkMetrics(asked options) error {
 
 // checkConfiguration refuses --config without --control. It is called only without --metrics, and
 // one of the two must show the configuration.
-func checkConfiguration(asked options) error {
-	if asked.configuration != nil && asked.control == "" {
+func checkConfiguration(opts options) error {
+	if opts.configuration != nil && opts.control == "" {
 		return errors.New("--config: there is neither --metrics nor --control")
 	}
 	return nil
 }
 
-func (asked *options) setStandby(given string) (err error) {
-	if asked.standby, err = time.ParseDuration(given); err != nil {
+func (opts *options) setStandby(given string) (err error) {
+	if opts.standby, err = time.ParseDuration(given); err != nil {
 		return err
 	}
-	if asked.standby < leastStandby || asked.standby > mostStandby {
-		return fmt.Errorf("%v is not %v to %v", asked.standby, leastStandby, mostStandby)
+	if opts.standby < leastStandby || opts.standby > mostStandby {
+		return fmt.Errorf("%v is not %v to %v", opts.standby, leastStandby, mostStandby)
 	}
 	return nil
 }
 
-func (asked *options) setConfiguration(path string) (err error) {
-	asked.configuration, err = readConfiguration(path)
+func (opts *options) setConfiguration(path string) (err error) {
+	opts.configuration, err = readConfiguration(path)
 	return err
 }
 
 // addTopology adds the topology of one --metrics-topology. It refuses a name that was given before,
 // since each name is one series.
-func (asked *options) addTopology(name string) error {
+func (opts *options) addTopology(name string) error {
 	added, err := readTopology(name)
 	if err != nil {
 		return err
 	}
-	for _, earlier := range asked.topologies {
+	for _, earlier := range opts.topologies {
 		if earlier.name == name {
 			return errors.New("it is there twice")
 		}
 	}
-	asked.topologies = append(asked.topologies, added)
+	opts.topologies = append(opts.topologies, added)
 	return nil
 }
 

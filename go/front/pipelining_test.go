@@ -607,7 +607,7 @@ func TestLimitsOfCallsOnTheirWay(t *testing.T) {
 			})
 			b := newBackend(path, time.Minute)
 			b.promptTime = time.Hour
-			wants(t, b, codes.NotFound)
+			wantReply(t, b, codes.NotFound)
 			var all sync.WaitGroup
 			for call := 0; call < 20; call++ {
 				all.Add(1)
@@ -850,8 +850,8 @@ func endsAtRandom(t *testing.T, made *table, seed int64) string {
 // The time for which calls are made while connections end at random. FRONT_STRESS sets another
 // time.
 var stressTime = func() time.Duration {
-	if asked, err := time.ParseDuration(os.Getenv("FRONT_STRESS")); err == nil {
-		return asked
+	if set, err := time.ParseDuration(os.Getenv("FRONT_STRESS")); err == nil {
+		return set
 	}
 	return 4 * time.Second
 }()

@@ -45,10 +45,10 @@ type share struct {
 }
 
 // turn is a call that waits for a place. number is its position among all calls that have begun to
-// wait, from 1 on. The channel came is closed when the call gets its place.
+// wait, from 1 on. The channel ready is closed when the call gets its place.
 type turn struct {
 	number uint64
-	came   chan struct{}
+	ready  chan struct{}
 }
 
 func newPlaces() *places {
@@ -62,7 +62,7 @@ func (p *places) take(ctx context.Context, client *clientConn) error {
 		return nil
 	}
 	select {
-	case <-waits.Value.(*turn).came:
+	case <-waits.Value.(*turn).ready:
 		return nil
 	case <-ctx.Done():
 		p.leave(client, waits)
@@ -99,7 +99,7 @@ func (p *places) leave(client *clientConn, waits *list.Element) {
 	p.mutex.Lock()
 	defer p.mutex.Unlock()
 	select {
-	case <-waits.Value.(*turn).came:
+	case <-waits.Value.(*turn).ready:
 		p.shares[client].held--
 		p.handOn()
 	default:
@@ -127,7 +127,7 @@ func (p *places) handOn() {
 	next := p.next()
 	p.waiting--
 	next.held++
-	close(next.queue.Remove(next.queue.Front()).(*turn).came)
+	close(next.queue.Remove(next.queue.Front()).(*turn).ready)
 }
 
 // next returns the share whose first waiting call gets the next place. At least one call must wait.

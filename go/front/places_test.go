@@ -25,7 +25,7 @@ func waits(p *places, client *clientConn) *list.Element { return p.begin(client)
 // has reports whether a call that waited has a place.
 func has(waits *list.Element) bool {
 	select {
-	case <-waits.Value.(*turn).came:
+	case <-waits.Value.(*turn).ready:
 		return true
 	default:
 		return false

@@ -74,7 +74,7 @@ func (h *handler) question(ctx context.Context, path string, message []byte, kin
 		value, is, err = lastField(body, 1, kind)
 	}
 	if err != nil && !h.isWaiting.Load() {
-		h.log.refuses("", path, nil, status.Convert(err), time.Since(begin))
+		h.log.logRefusal("", path, nil, status.Convert(err), time.Since(begin))
 	}
 	return value, is, err
 }
@@ -107,7 +107,7 @@ func (h *handler) isNodeReady(ctx context.Context) error {
 		err = readiness(nodePluginName, body)
 	}
 	if err != nil {
-		h.log.refuses("", probe, nil, status.Convert(err), time.Since(begin))
+		h.log.logRefusal("", probe, nil, status.Convert(err), time.Since(begin))
 	}
 	return err
 }
@@ -156,8 +156,8 @@ func readyValue(who string, wrapped []byte) error {
 
 // capacity returns the free bytes of a topology, from GetCapacity. The result is 0 if the reply has
 // no capacity.
-func (h *handler) capacity(ctx context.Context, asked topology) (int64, error) {
-	value, _, err := h.question(ctx, getCapacity, asked.message, protowire.VarintType)
+func (h *handler) capacity(ctx context.Context, of topology) (int64, error) {
+	value, _, err := h.question(ctx, getCapacity, of.message, protowire.VarintType)
 	if err != nil {
 		return 0, err
 	}

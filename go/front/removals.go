@@ -33,11 +33,11 @@ type removal struct {
 
 // made returns the change for the log. It returns nil instead if the call had nothing to remove and
 // was answered OK.
-func (r removal) made(asked *change, code codes.Code) *change {
+func (r removal) made(logged *change, code codes.Code) *change {
 	if r.isOfNothing && code == codes.OK {
 		return nil
 	}
-	return asked
+	return logged
 }
 
 // removalOf looks up the volume of a delete or an unpublish. For any other call, or if changes are

@@ -30,8 +30,8 @@ const (
 // orchestrator's sidecars wait for a missing socket, but end if their first Probe is answered
 // UNAVAILABLE. With a node plugin it calls serveWhileItWaits instead.
 func (f *front) standBy() int {
-	if err := startMonitor(f.handler, f.asked, f.failed); err != nil {
-		return f.fails(err, noSocket)
+	if err := startMonitor(f.handler, f.opts, f.failed); err != nil {
+		return f.fail(err, exitNoSocket)
 	}
 	if f.handler.node != nil {
 		return f.serveWhileItWaits()
@@ -45,18 +45,18 @@ func (f *front) standBy() int {
 	}()
 	select {
 	case err := <-f.failed:
-		return f.fails(err, noSocket)
+		return f.fail(err, exitNoSocket)
 	case <-f.stop:
 		// No gRPC call runs, but calls of the control socket may.
 		return f.end(newServer(f.handler))
 	case <-ready:
 	}
-	listener, err := sockets.Listen(f.asked.listen)
+	listener, err := sockets.Listen(f.opts.listen)
 	if err != nil {
-		return f.fails(err, noSocket)
+		return f.fail(err, exitNoSocket)
 	}
 	defer listener.Close()
-	go func() { f.silent <- f.handler.watch(f.asked.standby) }()
+	go func() { f.silent <- f.handler.watch(f.opts.standby) }()
 	return f.serve(listener)
 }
 
@@ -64,12 +64,12 @@ func (f *front) standBy() int {
 // node plugin belongs to this machine, so its calls need no csid. Until csid is ready, the calls of
 // csid are answered UNAVAILABLE.
 func (f *front) serveWhileItWaits() int {
-	listener, err := sockets.Listen(f.asked.listen)
+	listener, err := sockets.Listen(f.opts.listen)
 	if err != nil {
-		return f.fails(err, noSocket)
+		return f.fail(err, exitNoSocket)
 	}
 	defer listener.Close()
-	go f.handler.follow(f.asked.standby)
+	go f.handler.follow(f.opts.standby)
 	return f.serve(listener)
 }
 

@@ -151,18 +151,18 @@ func TestTimeOfAProbe(t *testing.T) {
 
 // While the front waits, it sends one Probe a second, even if each is answered at once.
 func TestPauseWhileItWaits(t *testing.T) {
-	asked := int32(0)
+	opts := int32(0)
 	ctx, cancel := context.WithCancel(context.Background())
 	path, _ := csid(t, func(conn net.Conn) {
 		for answerOnce(conn, fromHex(t, "00 0000 00 00000004 0a020800")) {
-			if atomic.AddInt32(&asked, 1) == 1 {
+			if atomic.AddInt32(&opts, 1) == 1 {
 				time.AfterFunc(200*time.Millisecond, cancel)
 			}
 		}
 	})
 	begin := time.Now()
 	inFront(path).await(ctx)
-	if got, most := atomic.LoadInt32(&asked), 1+int32(time.Since(begin)/time.Second); got > most {
+	if got, most := atomic.LoadInt32(&opts), 1+int32(time.Since(begin)/time.Second); got > most {
 		t.Errorf("asked %d times within %v", got, time.Since(begin))
 	}
 }
@@ -249,19 +249,19 @@ func TestEndWhileItWaits(t *testing.T) {
 			conn.Write(notFound)
 		}
 	})
-	asked := options{csid: path, late: time.Minute, waiting: 1, standby: time.Minute, grace: 10 * time.Second,
+	opts := options{csid: path, late: time.Minute, waiting: 1, standby: time.Minute, grace: 10 * time.Second,
 		control: filepath.Join(t.TempDir(), "control.sock")}
 	log := newLogger(io.Discard, textLines)
-	h := newHandler(asked, log)
-	c, err := startControl(h, asked)
+	h := newHandler(opts, log)
+	c, err := startControl(h, opts)
 	if err != nil {
 		t.Fatal(err)
 	}
 	t.Cleanup(c.close)
-	f := &front{asked: asked, log: log, handler: h, control: c, stop: make(chan os.Signal, 2)}
+	f := &front{opts: opts, log: log, handler: h, control: c, stop: make(chan os.Signal, 2)}
 	ended := make(chan int, 1)
 	go func() { ended <- f.standBy() }()
-	conn := dial(t, asked.control)
+	conn := dial(t, opts.control)
 	conn.Write(fromHex(t, shortFrame))
 	<-called
 	f.stop <- syscall.SIGTERM
@@ -274,7 +274,7 @@ func TestEndWhileItWaits(t *testing.T) {
 	if got, err := io.ReadAll(conn); err != nil || !bytes.Equal(got, notFound) {
 		t.Errorf("%x, %v", got, err)
 	}
-	if status := <-ended; status != done {
+	if status := <-ended; status != exitOK {
 		t.Errorf("status %d", status)
 	}
 }

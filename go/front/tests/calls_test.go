@@ -45,8 +45,8 @@ func (f *fake) dropsLate(t *testing.T, front *client, let chan struct{}) {
 	t.Helper()
 	calls, _ := f.seen()
 	time.AfterFunc(100*time.Millisecond, func() { close(let) })
-	front.wants(t, probe, "", ok(ready))
-	f.sees(t, append(calls, probe+" ")...)
+	front.wantReply(t, probe, "", ok(ready))
+	f.wantCalls(t, append(calls, probe+" ")...)
 	if _, ends := f.seen(); ends != 0 {
 		t.Errorf("%d connections ended", ends)
 	}
@@ -107,14 +107,14 @@ func TestLateReplyThatIsWrong(t *testing.T) {
 			let := make(chan struct{})
 			does.wait = let
 			csid, front := behindFront(t, step{write: okFrame("")}, does)
-			front.wants(t, "/a/b", "", ok(""))
+			front.wantReply(t, "/a/b", "", ok(""))
 			if got := front.send(soon(t, 100*time.Millisecond), "/a/c", nil); got.code != codes.DeadlineExceeded {
 				t.Errorf("%v, wanted DEADLINE_EXCEEDED", got)
 			}
 			close(let)
-			front.wants(t, probe, "", ok(ready))
-			csid.ended(t, 1)
-			csid.sees(t, "/a/b ", "/a/c ", probe+" ")
+			front.wantReply(t, probe, "", ok(ready))
+			csid.waitEnds(t, 1)
+			csid.wantCalls(t, "/a/b ", "/a/c ", probe+" ")
 		})
 	}
 }
@@ -124,15 +124,15 @@ func TestLateReplyThatNeverComes(t *testing.T) {
 	t.Parallel()
 	csid := startFake(t, step{write: okFrame("")}, step{mute: true})
 	front := newClient(t, processes.StartFront(t, csid.socket, "--late", "500ms", "--grace", "1h").Socket)
-	front.wants(t, "/a/b", "", ok(""))
+	front.wantReply(t, "/a/b", "", ok(""))
 	for call := 0; call < 3; call++ {
 		if got := front.send(soon(t, 100*time.Millisecond), "/a/c", nil); got.code != codes.DeadlineExceeded {
 			t.Errorf("%v, wanted DEADLINE_EXCEEDED", got)
 		}
 	}
-	front.wants(t, probe, "", ok(ready))
-	csid.ended(t, 1)
-	csid.sees(t, "/a/b ", "/a/c ", probe+" ")
+	front.wantReply(t, probe, "", ok(ready))
+	csid.waitEnds(t, 1)
+	csid.wantCalls(t, "/a/b ", "/a/c ", probe+" ")
 }
 
 // If all callers give up, csid gets only one of their calls, and keeps its connection. The next
@@ -148,7 +148,7 @@ func TestCallersThatAllGiveUp(t *testing.T) {
 			}
 		}
 	})
-	csid.sees(t, "/a/b ")
+	csid.wantCalls(t, "/a/b ")
 	csid.dropsLate(t, front, let)
 }
 
@@ -166,7 +166,7 @@ func TestClientThatSpeaksNothing(t *testing.T) {
 		defer conn.Close()
 		conn.Write([]byte(said))
 	}
-	newClient(t, process.Socket).wants(t, probe, "", ok(ready))
+	newClient(t, process.Socket).wantReply(t, probe, "", ok(ready))
 }
 
 // If a call is given up when half of its frame is written, the rest of the frame is written before
@@ -183,8 +183,8 @@ func TestHalfFrame(t *testing.T) {
 	}
 	processes.Eventually(t, "the call in the log", func() bool { return gaveUp(process, "/a/b") })
 	close(listening)
-	front.wants(t, probe, "", ok(ready))
-	csid.sees(t, "/a/b "+strings.Repeat("00", 1048576), probe+" ")
+	front.wantReply(t, probe, "", ok(ready))
+	csid.wantCalls(t, "/a/b "+strings.Repeat("00", 1048576), probe+" ")
 	if _, ends := csid.seen(); ends != 0 {
 		t.Errorf("%d connections ended", ends)
 	}
@@ -207,8 +207,8 @@ func TestWaitingForTheTurn(t *testing.T) {
 	processes.Eventually(t, "both in the log",
 		func() bool { return gaveUp(process, "/a/deadline") && gaveUp(process, "/a/cancel") })
 	first.ends(t)
-	front.wants(t, probe, "", ok(ready))
-	csid.sees(t, "/a/first ", probe+" ")
+	front.wantReply(t, probe, "", ok(ready))
+	csid.wantCalls(t, "/a/first ", probe+" ")
 	if _, ends := csid.seen(); ends != 0 {
 		t.Errorf("%d connections ended", ends)
 	}
@@ -223,7 +223,7 @@ func TestWhatNoFrameCanHave(t *testing.T) {
 	unknown := refused(codes.Unimplemented, "unknown method")
 	for _, path := range []string{longest + "b", "/a/ b", "/a /b", "/a/b ", "/a/\tb", "/a/\x80", "/\xff/b", "/" +
 		strings.Repeat("a/", 5000)} {
-		front.wants(t, path, "", unknown)
+		front.wantReply(t, path, "", unknown)
 	}
 	// HTTP/2 or gRPC refuses these paths before the front checks them.
 	for _, path := range []string{"/a/\x7f", "/a/\x00", "/a/\n", "/a"} {
@@ -237,9 +237,9 @@ func TestWhatNoFrameCanHave(t *testing.T) {
 			t.Errorf("a message of %d bytes: %v", size, got)
 		}
 	}
-	csid.sees(t)
-	front.wants(t, longest, strings.Repeat("00", 1048576), ok(ready))
-	csid.sees(t, longest+" "+strings.Repeat("00", 1048576))
+	csid.wantCalls(t)
+	front.wantReply(t, longest, strings.Repeat("00", 1048576), ok(ready))
+	csid.wantCalls(t, longest+" "+strings.Repeat("00", 1048576))
 }
 
 // gRPC refuses a compressed message, so no message can grow when it is read.
@@ -251,7 +251,7 @@ func TestCompressedMessage(t *testing.T) {
 		grpc.UseCompressor(gzip.Name)); grpc.Code(err) != codes.Unimplemented {
 		t.Errorf("%v, wanted UNIMPLEMENTED", err)
 	}
-	csid.sees(t)
+	csid.wantCalls(t)
 }
 
 // A call without a message or with two messages is refused, and csid does not see it.
@@ -274,7 +274,7 @@ func TestOneMessageACall(t *testing.T) {
 			t.Errorf("%d messages: %v, wanted %v", count, err, want)
 		}
 	}
-	csid.sees(t, "/a/b 01")
+	csid.wantCalls(t, "/a/b 01")
 }
 
 // Each call that is refused or lost has one line, with its path, code, text and milliseconds, and

@@ -85,8 +85,8 @@ func (c *client) call(t *testing.T, path, message string) answer {
 	return c.send(ctx, path, fromHex(t, message))
 }
 
-// wants makes a call, and checks that its answer is want.
-func (c *client) wants(t *testing.T, path, message string, want answer) {
+// wantReply makes a call, and checks that its answer is want.
+func (c *client) wantReply(t *testing.T, path, message string, want answer) {
 	t.Helper()
 	if got := c.call(t, path, message); got != want {
 		t.Errorf("%s %.80s: %v, wanted %v", path, message, got, want)

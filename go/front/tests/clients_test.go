@@ -66,7 +66,7 @@ func floods(t *testing.T, socket string, frames []byte, isEndless bool) {
 func TestConnectionsThatFlood(t *testing.T) {
 	t.Parallel()
 	process, monitor := watched(t, startFake(t).socket)
-	newClient(t, process.Socket).wants(t, probe, "", ok(ready))
+	newClient(t, process.Socket).wantReply(t, probe, "", ok(ready))
 	before, files := goroutines(t, monitor), process.OpenFiles(t)
 	rows := map[string][]byte{
 		"PING":     repeated(func(f *http2.Framer) { f.WritePing(false, [8]byte{}) }),

@@ -55,7 +55,7 @@ func TestControlSocket(t *testing.T) {
 	csid := processes.StartCsid(t)
 	process, socket := controlled(t, csid.Socket())
 	front := newClient(t, process.Socket)
-	front.wants(t, controller+"CreateVolume", createA, ok(volume1))
+	front.wantReply(t, controller+"CreateVolume", createA, ok(volume1))
 	if file, err := os.Lstat(socket); err != nil || file.Mode().Perm() != 0o600 {
 		t.Errorf("%v, %v", file, err)
 	}
@@ -78,7 +78,7 @@ func TestControlSocket(t *testing.T) {
 		reply.Text != "bad path length at byte 0" {
 		t.Errorf("%v, %v", reply, err)
 	}
-	front.wants(t, controller+"ControllerUnpublishVolume", vol1, ok(""))
+	front.wantReply(t, controller+"ControllerUnpublishVolume", vol1, ok(""))
 	processes.Eventually(t, "three lines", func() bool { return strings.Count(process.Log.String(), "\n") >= 3 })
 	for i, line := range strings.Split(process.Log.String(), "\n")[:3] {
 		want := []string{
@@ -102,7 +102,7 @@ func TestControlSocketByClient(t *testing.T) {
 	}
 	csid := processes.StartCsid(t)
 	process, socket := controlled(t, csid.Socket())
-	newClient(t, process.Socket).wants(t, controller+"CreateVolume", createA, ok(volume1))
+	newClient(t, process.Socket).wantReply(t, controller+"CreateVolume", createA, ok(volume1))
 	said, err := exec.Command(program, "call", "--socket", socket, "--method", "ListVolumes", "--all").Output()
 	if !strings.HasSuffix(string(said), "\nvolume vol-1 1048576 -\n") || err != nil {
 		t.Errorf("%s, %v", said, err)
@@ -117,23 +117,23 @@ func TestTurnOfControl(t *testing.T) {
 	csid := startFake(t, step{wait: let, write: okFrame("01")})
 	process, socket := controlled(t, csid.socket)
 	front := newClient(t, process.Socket)
-	came := make(chan answer)
-	go func() { came <- front.send(context.Background(), "/a/first", nil) }()
+	replies := make(chan answer)
+	go func() { replies <- front.send(context.Background(), "/a/first", nil) }()
 	csid.called(t, 1)
 	go func() {
 		reply, err := control(t, socket, frameOf(t, "/a/control", ""))
 		if err != nil {
 			t.Error(err)
 		}
-		came <- answer{reply.Code, reply.Text, hexOf(reply.Body)}
+		replies <- answer{reply.Code, reply.Text, hexOf(reply.Body)}
 	}()
 	time.Sleep(100 * time.Millisecond)
-	csid.sees(t, "/a/first ")
+	csid.wantCalls(t, "/a/first ")
 	close(let)
-	if got := (map[answer]bool{<-came: true, <-came: true}); !got[ok("01")] || !got[ok(ready)] {
+	if got := (map[answer]bool{<-replies: true, <-replies: true}); !got[ok("01")] || !got[ok(ready)] {
 		t.Errorf("%v", got)
 	}
-	csid.sees(t, "/a/first ", "/a/control ")
+	csid.wantCalls(t, "/a/first ", "/a/control ")
 	if _, ends := csid.seen(); ends != 0 {
 		t.Errorf("%d connections ended", ends)
 	}

@@ -100,7 +100,7 @@ func TestCallsOfVolumes(t *testing.T) {
 	csid := processes.StartCsid(t)
 	front := newClient(t, processes.StartFront(t, csid.Socket()).Socket)
 	for _, row := range callsOfVolumes {
-		front.wants(t, row.path, row.message, row.want)
+		front.wantReply(t, row.path, row.message, row.want)
 	}
 	csid.WantsStartAlone(t)
 }
@@ -310,7 +310,7 @@ func TestCsidThatStandsStill(t *testing.T) {
 	const callers, still = 20, 1500 * time.Millisecond
 	csid := processes.StartCsid(t)
 	socket := processes.StartFront(t, csid.Socket()).Socket
-	newClient(t, socket).wants(t, probe, "", ok(ready))
+	newClient(t, socket).wantReply(t, probe, "", ok(ready))
 	signal := func(which syscall.Signal) {
 		if err := csid.Current.Process.Signal(which); err != nil {
 			t.Fatal(err)
@@ -344,11 +344,11 @@ func TestCsidThatIsStartedAgain(t *testing.T) {
 	csid := processes.StartCsid(t)
 	front := newClient(t, processes.StartFront(t, csid.Socket()).Socket)
 	for round := 0; round < 5; round++ {
-		front.wants(t, probe, "", ok(ready))
+		front.wantReply(t, probe, "", ok(ready))
 		csid.Kill(t)
 		csid.Start(t)
 	}
-	front.wants(t, probe, "", ok(ready))
+	front.wantReply(t, probe, "", ok(ready))
 }
 
 // Without csid, calls are refused at once. csid may start after the front.
@@ -358,7 +358,7 @@ func TestCsidThatIsAway(t *testing.T) {
 	front := newClient(t, processes.StartFront(t, csid.Socket()).Socket)
 	front.isLost(t, probe, "")
 	csid.Start(t)
-	front.wants(t, probe, "", ok(ready))
+	front.wantReply(t, probe, "", ok(ready))
 	csid.Current.Kill()
 	front.isLost(t, probe, "")
 	front.isLost(t, probe, "")
@@ -374,7 +374,7 @@ func TestTenThousandCalls(t *testing.T) {
 	calls := func(count int) {
 		processes.Together(8, func(caller int) {
 			for i := 0; i < count/8; i++ {
-				front.wants(t, probe, "", ok(ready))
+				front.wantReply(t, probe, "", ok(ready))
 			}
 		})
 	}
@@ -408,7 +408,7 @@ func TestIdleConnection(t *testing.T) {
 		filepath.Join(folder, "volumes.db"), "--idle", "1")).Answers(t)
 	front := newClient(t, processes.StartFront(t, csid.Socket).Socket)
 	for late := -3; late <= 3; late++ {
-		front.wants(t, probe, "", ok(ready))
+		front.wantReply(t, probe, "", ok(ready))
 		sent := time.Now()
 		go func() {
 			if peer, err := net.Dial("unix", socket); err == nil {
@@ -420,5 +420,5 @@ func TestIdleConnection(t *testing.T) {
 		}()
 		time.Sleep(time.Until(sent.Add(time.Second + time.Duration(late)*time.Millisecond)))
 	}
-	front.wants(t, probe, "", ok(ready))
+	front.wantReply(t, probe, "", ok(ready))
 }

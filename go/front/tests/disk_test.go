@@ -83,7 +83,7 @@ func TestFullDisk(t *testing.T) {
 		if len(refusals) == 0 {
 			t.Fatal("the disk is full, and every volume was made")
 		}
-		front.wants(t, probe, "", ok(ready))
+		front.wantReply(t, probe, "", ok(ready))
 		if err := os.Remove(filepath.Join(disk, "filler")); err != nil {
 			t.Fatal(err)
 		}
@@ -178,7 +178,7 @@ func TestFaultOfTheDisk(t *testing.T) {
 			if id, got := create(soon(t, processes.Patience), front, "open"); got.code != codes.Unavailable {
 				t.Errorf("%s, %v, wanted UNAVAILABLE", id, got)
 			}
-			front.wants(t, probe, "", ok(ready))
+			front.wantReply(t, probe, "", ok(ready))
 			id, spent := back(t, front, "open")
 			told.note(t, "open", id)
 			if spent > soonBack {

@@ -65,16 +65,16 @@ type running struct {
 	process *processes.Process
 	front   *client
 	let     chan struct{}
-	came    chan answer
+	reply   chan answer
 }
 
 func runCall(t *testing.T, path string) *running {
 	t.Helper()
-	call := &running{let: make(chan struct{}), came: make(chan answer)}
+	call := &running{let: make(chan struct{}), reply: make(chan answer)}
 	call.csid = startFake(t, step{wait: call.let, write: okFrame("01")})
 	call.process = processes.StartFront(t, call.csid.socket)
 	call.front = newClient(t, call.process.Socket)
-	go func() { call.came <- call.front.send(context.Background(), path, nil) }()
+	go func() { call.reply <- call.front.send(context.Background(), path, nil) }()
 	call.csid.called(t, 1)
 	return call
 }
@@ -83,7 +83,7 @@ func runCall(t *testing.T, path string) *running {
 func (r *running) ends(t *testing.T) {
 	t.Helper()
 	close(r.let)
-	if got := <-r.came; got != ok("01") {
+	if got := <-r.reply; got != ok("01") {
 		t.Errorf("the call that ran: %v", got)
 	}
 }
@@ -193,15 +193,15 @@ func (f *fake) messagesOf(path string) (messages []string) {
 	return messages
 }
 
-func (f *fake) sees(t *testing.T, want ...string) {
+func (f *fake) wantCalls(t *testing.T, want ...string) {
 	t.Helper()
 	if calls, _ := f.seen(); strings.Join(calls, ", ") != strings.Join(want, ", ") {
 		t.Errorf("csid saw %.300q, wanted %.300q", calls, want)
 	}
 }
 
-// ended waits until at least count connections have ended.
-func (f *fake) ended(t *testing.T, count int) {
+// waitEnds waits until at least count connections have ended.
+func (f *fake) waitEnds(t *testing.T, count int) {
 	t.Helper()
 	processes.Eventually(t, "the end of a connection to csid", func() bool {
 		_, ends := f.seen()

@@ -27,7 +27,7 @@ func newHealth(t *testing.T, socket string) health {
 	return health{grpc_health_v1.NewHealthClient(conn)}
 }
 
-func (h health) wants(t *testing.T, service string, want grpc_health_v1.HealthCheckResponse_ServingStatus,
+func (h health) wantReply(t *testing.T, service string, want grpc_health_v1.HealthCheckResponse_ServingStatus,
 	code codes.Code) {
 	t.Helper()
 	got, err := h.Check(soon(t, processes.Patience), &grpc_health_v1.HealthCheckRequest{Service: service})
@@ -45,17 +45,17 @@ func TestHealth(t *testing.T) {
 	csid := processes.NewServer(t, "")
 	health := newHealth(t, processes.StartFront(t, csid.Socket(), "--health").Socket)
 	for round := 0; round < 2; round++ {
-		health.wants(t, "", notServing, codes.OK)
+		health.wantReply(t, "", notServing, codes.OK)
 		csid.Start(t)
 		processes.Eventually(t, "a csid that serves", func() bool {
 			got, err := health.Check(soon(t, processes.Patience), &grpc_health_v1.HealthCheckRequest{})
 			return err == nil && got.Status == serving
 		})
 		for _, service := range []string{"csi.v1.Identity", "csi.v1.Controller"} {
-			health.wants(t, service, serving, codes.OK)
+			health.wantReply(t, service, serving, codes.OK)
 		}
 		for _, service := range []string{"csi.v1.Node", "csi.v1", "grpc.health.v1.Health"} {
-			health.wants(t, service, grpc_health_v1.HealthCheckResponse_UNKNOWN, codes.NotFound)
+			health.wantReply(t, service, grpc_health_v1.HealthCheckResponse_UNKNOWN, codes.NotFound)
 		}
 		csid.Kill(t)
 	}
@@ -67,7 +67,7 @@ func TestHealthWhileCsidStandsStill(t *testing.T) {
 	csid := startFake(t, step{mute: true})
 	health := newHealth(t, processes.StartFront(t, csid.socket, "--health").Socket)
 	begin := time.Now()
-	health.wants(t, "", grpc_health_v1.HealthCheckResponse_NOT_SERVING, codes.OK)
+	health.wantReply(t, "", grpc_health_v1.HealthCheckResponse_NOT_SERVING, codes.OK)
 	if spent := time.Since(begin); spent < 5*time.Second || spent > 10*time.Second {
 		t.Errorf("it took %v", spent)
 	}
@@ -93,9 +93,9 @@ func TestMalformedHealthCheck(t *testing.T) {
 	t.Parallel()
 	process, monitor := watched(t, startFake(t).socket, "--health")
 	const check = "/grpc.health.v1.Health/Check"
-	newClient(t, process.Socket).wants(t, check, "0a", refused(codes.InvalidArgument, "malformed message"))
+	newClient(t, process.Socket).wantReply(t, check, "0a", refused(codes.InvalidArgument, "malformed message"))
 	newHealth(t, process.Socket).Check(context.Background(), &grpc_health_v1.HealthCheckRequest{})
-	wantsSeries(t, counted(series(t, monitor)), "csid_front_calls_total", map[string]string{
+	wantSeries(t, counted(series(t, monitor)), "csid_front_calls_total", map[string]string{
 		`csid_front_calls_total{code="InvalidArgument",method="` + check + `"}`: "1",
 		`csid_front_calls_total{code="OK",method="` + check + `"}`:              "1",
 	})

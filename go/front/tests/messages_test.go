@@ -27,8 +27,8 @@ func TestMessagesThatWait(t *testing.T) {
 	first, second := make(chan struct{}), make(chan struct{})
 	csid := startFake(t, step{wait: first, write: okFrame("01")}, step{wait: second, write: okFrame("02")})
 	front := newClient(t, processes.StartFront(t, csid.socket, "--waiting", "1").Socket)
-	came := make(chan answer)
-	go func() { came <- front.send(soon(t, processes.Patience), "/a/b", make([]byte, 1048576)) }()
+	replies := make(chan answer)
+	go func() { replies <- front.send(soon(t, processes.Patience), "/a/b", make([]byte, 1048576)) }()
 	csid.called(t, 1)
 	full := refused(codes.Unavailable, "the messages of all calls that wait would have more than 1048576 bytes")
 	for _, size := range []int{1, 1048576} {
@@ -36,16 +36,16 @@ func TestMessagesThatWait(t *testing.T) {
 			t.Errorf("%v, wanted %v", got, full)
 		}
 	}
-	go func() { came <- front.send(soon(t, processes.Patience), "/a/empty", nil) }()
+	go func() { replies <- front.send(soon(t, processes.Patience), "/a/empty", nil) }()
 	close(first)
-	if got := <-came; got != ok("01") {
+	if got := <-replies; got != ok("01") {
 		t.Errorf("%v", got)
 	}
 	csid.called(t, 2)
-	go func() { came <- front.send(soon(t, processes.Patience), "/a/room", make([]byte, 1048576)) }()
+	go func() { replies <- front.send(soon(t, processes.Patience), "/a/room", make([]byte, 1048576)) }()
 	close(second)
 	for i, one := 0, map[answer]bool{ok("02"): true, ok(ready): true}; i < 2; i++ {
-		if got := <-came; !one[got] {
+		if got := <-replies; !one[got] {
 			t.Errorf("%v", got)
 		}
 	}
@@ -90,7 +90,7 @@ func TestManyGreatMessages(t *testing.T) {
 	let := make(chan struct{})
 	csid := startFake(t, step{write: okFrame("")}, step{wait: let, write: okFrame("01")})
 	process := processes.StartFront(t, csid.socket)
-	newClient(t, process.Socket).wants(t, "/a/first", "", ok(""))
+	newClient(t, process.Socket).wantReply(t, "/a/first", "", ok(""))
 	message := make([]byte, 1048576)
 	var full, late, served int32
 	over := make(chan struct{})
@@ -153,7 +153,7 @@ func TestMessagesThatNeverCome(t *testing.T) {
 	}
 	streams := begins(calls)
 	begin := time.Now()
-	newClient(t, process.Socket).wants(t, probe, "", ok(ready))
+	newClient(t, process.Socket).wantReply(t, probe, "", ok(ready))
 	if spent := time.Since(begin); spent < 200*time.Millisecond || spent > 5*time.Second {
 		t.Errorf("served after %v", spent)
 	}
@@ -223,7 +223,7 @@ func TestCallsWithoutAMessageThatComeAgain(t *testing.T) {
 	}
 	before := ended()
 	for i := 0; i < probes; i++ {
-		front.wants(t, probe, "", ok(ready))
+		front.wantReply(t, probe, "", ok(ready))
 	}
 	// Each probe needs one place, and after each second without a message 16 calls give up their
 	// places. If places went to calls in the order of their arrival, a probe would wait for a
@@ -250,7 +250,7 @@ func TestMessagesThatAreAnnounced(t *testing.T) {
 				framer.WriteData(2*call+1, false, []byte{0, 0, 0x10, 0, 0, 1})
 			}
 		}
-		newClient(t, process.Socket).wants(t, probe, "", ok(ready))
+		newClient(t, process.Socket).wantReply(t, probe, "", ok(ready))
 		for _, conn := range conns {
 			conn.Close()
 		}
@@ -277,8 +277,8 @@ func TestHeadersThatAreTooLong(t *testing.T) {
 	if got := front.send(with(17000), "/a/long", nil); got.code != codes.Internal {
 		t.Errorf("%v", got)
 	}
-	front.wants(t, "/a/then", "", ok(ready))
-	csid.sees(t, "/a/short ", "/a/then ")
+	front.wantReply(t, "/a/then", "", ok(ready))
+	csid.wantCalls(t, "/a/short ", "/a/then ")
 }
 
 // When a client connects, the front sends its limits: the number of calls, the window for a
@@ -314,11 +314,11 @@ func TestManyLongHeaders(t *testing.T) {
 	for call := 0; call < calls; call++ {
 		writeCall(framer, uint32(2*call+1), fields)
 	}
-	newClient(t, process.Socket).wants(t, probe, "", ok(ready))
+	newClient(t, process.Socket).wantReply(t, probe, "", ok(ready))
 	if taken := process.ResidentBytes(t); taken > 128<<20 {
 		t.Errorf("the front takes %d MiB", taken>>20)
 	}
-	csid.sees(t, probe+" ")
+	csid.wantCalls(t, probe+" ")
 }
 
 // speak makes a connection, begins HTTP/2 on it, and returns it with a framer.

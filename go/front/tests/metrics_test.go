@@ -73,9 +73,9 @@ func series(t *testing.T, monitor string) map[string]string {
 	return all
 }
 
-// wantsSeries checks that the series whose names begin with prefix are exactly the wanted ones,
+// wantSeries checks that the series whose names begin with prefix are exactly the wanted ones,
 // with the wanted values.
-func wantsSeries(t *testing.T, got map[string]string, prefix string, want map[string]string) {
+func wantSeries(t *testing.T, got map[string]string, prefix string, want map[string]string) {
 	t.Helper()
 	for name, value := range got {
 		if strings.HasPrefix(name, prefix) && want[name] != value {
@@ -123,24 +123,24 @@ func TestMetrics(t *testing.T) {
 		front.call(t, path, "")
 	}
 	got := series(t, monitor)
-	wantsSeries(t, counted(got), "csid_front_calls_total", map[string]string{
+	wantSeries(t, counted(got), "csid_front_calls_total", map[string]string{
 		`csid_front_calls_total{code="OK",method="` + create + `"}`:                "1",
 		`csid_front_calls_total{code="ResourceExhausted",method="` + create + `"}`: "2",
 		`csid_front_calls_total{code="Unavailable",method="` + remove + `"}`:       "1",
 		`csid_front_calls_total{code="Internal",method="` + remove + `"}`:          "1",
 		`csid_front_calls_total{code="Unimplemented",method="other"}`:              "2",
 	})
-	wantsSeries(t, got, "csid_front_call_duration_seconds_count", map[string]string{
+	wantSeries(t, got, "csid_front_call_duration_seconds_count", map[string]string{
 		`csid_front_call_duration_seconds_count{method="` + create + `"}`: "3",
 		`csid_front_call_duration_seconds_count{method="` + remove + `"}`: "2",
 		`csid_front_call_duration_seconds_count{method="other"}`:          "2",
 	})
-	wantsSeries(t, got, "csid_front_internal_refusals_total", map[string]string{
+	wantSeries(t, got, "csid_front_internal_refusals_total", map[string]string{
 		`csid_front_internal_refusals_total{reason="out of memory"}`: "0",
 		`csid_front_internal_refusals_total{reason="store refused"}`: "1",
 		`csid_front_internal_refusals_total{reason="store is down"}`: "0",
 	})
-	wantsSeries(t, got, "csid_front_available_capacity_bytes", map[string]string{
+	wantSeries(t, got, "csid_front_available_capacity_bytes", map[string]string{
 		`csid_front_available_capacity_bytes{topology=""}`:       "1.4680064e+07",
 		`csid_front_available_capacity_bytes{topology="zone=a"}`: "0",
 	})
@@ -151,9 +151,9 @@ func TestMetrics(t *testing.T) {
 		"csid_front_waiting_calls":             "0",
 		"csid_front_csid_up":                   "1",
 	} {
-		wantsSeries(t, got, name, map[string]string{name: value})
+		wantSeries(t, got, name, map[string]string{name: value})
 	}
-	csid.sees(t, create+" ", create+" ", create+" ", remove+" ", remove+" ", "/a/b ",
+	csid.wantCalls(t, create+" ", create+" ", create+" ", remove+" ", remove+" ", "/a/b ",
 		probe+" ", getCapacity+" ", getCapacity+" 1a0b0a090a047a6f6e65120161",
 		getCapacity+" 1a160a090a047a6f6e651201620a090a045a6f6e65120162")
 	processes.Eventually(t, "what was refused in the log", func() bool {
@@ -177,7 +177,7 @@ func TestMetricsBeforeAnyCall(t *testing.T) {
 		}
 	}
 	// Without --standby this series is not reported. The alerts count the fronts that report it.
-	wantsSeries(t, got, "csid_front_standing_by", nil)
+	wantSeries(t, got, "csid_front_standing_by", nil)
 }
 
 // The version and the metrics of Go and of the process are reported.
@@ -204,10 +204,10 @@ func TestMetricsOfInventedMethods(t *testing.T) {
 	process, monitor := watched(t, startFake(t).socket)
 	front := newClient(t, process.Socket)
 	for i := 0; i < 50; i++ {
-		front.wants(t, fmt.Sprintf("/csi.v1.Controller/Invented%d", i), "", ok(ready))
+		front.wantReply(t, fmt.Sprintf("/csi.v1.Controller/Invented%d", i), "", ok(ready))
 	}
 	got := series(t, monitor)
-	wantsSeries(t, counted(got), "csid_front_calls_total",
+	wantSeries(t, counted(got), "csid_front_calls_total",
 		map[string]string{`csid_front_calls_total{code="OK",method="other"}`: "50"})
 	for name := range got {
 		if strings.Contains(name, "Invented") {
@@ -224,9 +224,9 @@ func TestMetricsWhileCsidStandsStill(t *testing.T) {
 	csid := startFake(t, step{wait: let, write: okFrame("01")})
 	process, monitor := watched(t, csid.socket)
 	front := newClient(t, process.Socket)
-	came := make(chan answer)
+	replies := make(chan answer)
 	for call := 0; call < 3; call++ {
-		go func() { came <- front.send(soon(t, 3*processes.Patience), probe, nil) }()
+		go func() { replies <- front.send(soon(t, 3*processes.Patience), probe, nil) }()
 	}
 	csid.called(t, 1)
 	begin := time.Now()
@@ -246,11 +246,11 @@ func TestMetricsWhileCsidStandsStill(t *testing.T) {
 	if spent := time.Since(begin); spent > 20*time.Second {
 		t.Errorf("it took %v", spent)
 	}
-	wantsSeries(t, got, "csid_front_csid_up", map[string]string{"csid_front_csid_up": "0"})
-	wantsSeries(t, got, "csid_front_available_capacity_bytes", nil)
+	wantSeries(t, got, "csid_front_csid_up", map[string]string{"csid_front_csid_up": "0"})
+	wantSeries(t, got, "csid_front_available_capacity_bytes", nil)
 	close(let)
 	for call := 0; call < 3; call++ {
-		<-came
+		<-replies
 	}
 	bucket := func(bound string) string {
 		return series(t, monitor)[`csid_front_call_duration_seconds_bucket{method="`+probe+`",le="`+bound+`"}`]
@@ -266,8 +266,8 @@ func TestMetricsWithoutACapacityInTime(t *testing.T) {
 	t.Parallel()
 	_, monitor := watched(t, startFake(t, step{write: okFrame(ready)}, step{mute: true}).socket)
 	got := series(t, monitor)
-	wantsSeries(t, got, "csid_front_csid_up", map[string]string{"csid_front_csid_up": "1"})
-	wantsSeries(t, got, "csid_front_available_capacity_bytes", nil)
+	wantSeries(t, got, "csid_front_csid_up", map[string]string{"csid_front_csid_up": "1"})
+	wantSeries(t, got, "csid_front_available_capacity_bytes", nil)
 }
 
 // While csid hangs, scrapes beyond the fourth are refused.
@@ -390,9 +390,9 @@ func TestMetricsOfPools(t *testing.T) {
 	process, monitor := watched(t, processes.StartCsid(t).Socket(), "--metrics-topology", "zone=a",
 		"--metrics-topology", "zone=b", "--metrics-topology", "zone=c")
 	front := newClient(t, process.Socket)
-	front.wants(t, controller+"CreateVolume", createA, ok(volume1))
-	front.wants(t, controller+"CreateVolume", "0a0162"+threeB+block+zoneB, ok(volume2))
-	wantsSeries(t, series(t, monitor), "csid_front_available_capacity_bytes", map[string]string{
+	front.wantReply(t, controller+"CreateVolume", createA, ok(volume1))
+	front.wantReply(t, controller+"CreateVolume", "0a0162"+threeB+block+zoneB, ok(volume2))
+	wantSeries(t, series(t, monitor), "csid_front_available_capacity_bytes", map[string]string{
 		`csid_front_available_capacity_bytes{topology=""}`:       "1.048576e+07",
 		`csid_front_available_capacity_bytes{topology="zone=a"}`: "9.437184e+06",
 		`csid_front_available_capacity_bytes{topology="zone=b"}`: "1.048576e+06",
@@ -413,7 +413,7 @@ func TestMetricsOfListings(t *testing.T) {
 			t.Fatal(got)
 		}
 	}
-	front.wants(t, controller+"ControllerPublishVolume", vol1+n1+block,
+	front.wantReply(t, controller+"ControllerPublishVolume", vol1+n1+block,
 		ok("0a11 0a08 726561646f6e6c79 1205 66616c7365"))
 	earlier.Kill()
 	config := filepath.Join(processes.Folder(t), "config.toml")
@@ -492,6 +492,6 @@ func TestMetricsOfGreatMessages(t *testing.T) {
 		make([]byte, 1048577)); got.code != codes.ResourceExhausted {
 		t.Errorf("%v", got)
 	}
-	wantsSeries(t, counted(series(t, monitor)), "csid_front_calls_total",
+	wantSeries(t, counted(series(t, monitor)), "csid_front_calls_total",
 		map[string]string{`csid_front_calls_total{code="ResourceExhausted",method="` + probe + `"}`: "1"})
 }

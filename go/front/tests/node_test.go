@@ -75,7 +75,7 @@ func (n *nodePlugin) seen() []string {
 	return append([]string(nil), n.calls...)
 }
 
-func (n *nodePlugin) sees(t *testing.T, want ...string) {
+func (n *nodePlugin) wantCalls(t *testing.T, want ...string) {
 	t.Helper()
 	if calls := n.seen(); strings.Join(calls, ", ") != strings.Join(want, ", ") {
 		t.Errorf("the node plugin saw %.300q, wanted %.300q", calls, want)
@@ -142,9 +142,9 @@ func TestNodeCalls(t *testing.T) {
 		t.Run(row.name, func(t *testing.T) {
 			t.Parallel()
 			csid, plugin, front := startBoth(t, replies(t, row.want))
-			front.wants(t, row.path, row.message, row.want)
-			plugin.sees(t, row.path+" "+strings.ReplaceAll(row.message, " ", ""))
-			csid.sees(t)
+			front.wantReply(t, row.path, row.message, row.want)
+			plugin.wantCalls(t, row.path+" "+strings.ReplaceAll(row.message, " ", ""))
+			csid.wantCalls(t)
 		})
 	}
 }
@@ -182,7 +182,7 @@ func TestWhoAnswersACall(t *testing.T) {
 		csid := startFake(t, step{write: okFrame(ofCsid)})
 		plugin := startNode(t, nodeSocket(t), replies(t, ok(ofNode)))
 		front := newClient(t, processes.StartFront(t, csid.socket, "--node", plugin.socket).Socket)
-		front.wants(t, row.path, "", ok(row.want))
+		front.wantReply(t, row.path, "", ok(row.want))
 	}
 }
 
@@ -193,14 +193,14 @@ func TestNodeCallsOfCsid(t *testing.T) {
 	const info, unknown = nodeService + "NodeGetInfo", "unknown method"
 	csid := processes.StartCsid(t)
 	front := newClient(t, processes.StartFront(t, csid.Socket()).Socket)
-	front.wants(t, info, "", refused(codes.Unimplemented, unknown))
+	front.wantReply(t, info, "", refused(codes.Unimplemented, unknown))
 	plugin := startNode(t, nodeSocket(t), replies(t, ok("")))
 	_, socket := controlled(t, csid.Socket(), "--node", plugin.socket)
 	reply, err := control(t, socket, frameOf(t, info, ""))
 	if err != nil || reply.Code != codes.Unimplemented || reply.Text != unknown {
 		t.Errorf("%v, %v", reply, err)
 	}
-	plugin.sees(t)
+	plugin.wantCalls(t)
 }
 
 // The plugin gets the deadline of the caller, and the caller has an answer by then.
@@ -276,7 +276,7 @@ func TestNodePluginThatIsStartedAgain(t *testing.T) {
 	for round := 0; round < 3; round++ {
 		isAway(t, front)
 		plugin := startNode(t, socket, replies(t, ok("01")))
-		front.wants(t, nodeService+"NodeGetInfo", "", ok("01"))
+		front.wantReply(t, nodeService+"NodeGetInfo", "", ok("01"))
 		plugin.server.Stop()
 	}
 	// A socket without a listener, as a killed plugin leaves it.
@@ -293,15 +293,15 @@ func TestNodePluginThatIsStartedAgain(t *testing.T) {
 func TestNodePluginThatEndsInACall(t *testing.T) {
 	t.Parallel()
 	_, plugin, front := startBoth(t, hangs)
-	came := make(chan answer)
-	go func() { came <- front.send(soon(t, processes.Patience), nodeService+"NodeStageVolume", nil) }()
+	reply := make(chan answer)
+	go func() { reply <- front.send(soon(t, processes.Patience), nodeService+"NodeStageVolume", nil) }()
 	plugin.called(t, 1)
 	plugin.server.Stop()
 	next := startNode(t, plugin.socket, replies(t, ok("")))
-	if got := <-came; got.code != codes.Unavailable {
+	if got := <-reply; got.code != codes.Unavailable {
 		t.Errorf("%v, wanted UNAVAILABLE", got)
 	}
-	next.sees(t)
+	next.wantCalls(t)
 }
 
 // mute returns the path of a listening socket whose connections are never accepted.
@@ -333,7 +333,7 @@ func TestNodePluginThatHangs(t *testing.T) {
 				go front.send(ctx, nodeService+"NodeStageVolume", make([]byte, 1<<20))
 			}
 			for call := 0; call < 20; call++ {
-				front.wants(t, controller+"CreateVolume", createA, ok(volume1))
+				front.wantReply(t, controller+"CreateVolume", createA, ok(volume1))
 			}
 		})
 	}
@@ -367,22 +367,22 @@ func TestTooManyNodeCalls(t *testing.T) {
 	process, monitor := watched(t, startFake(t).socket, "--node", plugin.socket, "--waiting", "1")
 	front := newClient(t, process.Socket)
 	const stage = nodeService + "NodeStageVolume"
-	came := make(chan answer, most)
+	replies := make(chan answer, most)
 	for call := 0; call < most; call++ {
-		go func() { came <- front.send(context.Background(), stage, make([]byte, 64<<10)) }()
+		go func() { replies <- front.send(context.Background(), stage, make([]byte, 64<<10)) }()
 	}
 	plugin.called(t, most)
-	front.wants(t, stage, "", refused(codes.Unavailable, "node plugin: 64 calls run already"))
-	front.wants(t, controller+"CreateVolume", strings.Repeat("00", 1<<20), ok(ready))
-	front.wants(t, probe, "", ok(ready))
-	wantsSeries(t, series(t, monitor), "csid_front_node_calls", map[string]string{"csid_front_node_calls": "64"})
+	front.wantReply(t, stage, "", refused(codes.Unavailable, "node plugin: 64 calls run already"))
+	front.wantReply(t, controller+"CreateVolume", strings.Repeat("00", 1<<20), ok(ready))
+	front.wantReply(t, probe, "", ok(ready))
+	wantSeries(t, series(t, monitor), "csid_front_node_calls", map[string]string{"csid_front_node_calls": "64"})
 	close(let)
 	for call := 0; call < most; call++ {
-		if got := <-came; got != ok("") {
+		if got := <-replies; got != ok("") {
 			t.Errorf("%v", got)
 		}
 	}
-	front.wants(t, stage, "", ok(""))
+	front.wantReply(t, stage, "", ok(""))
 }
 
 // A message that is too long is refused before the plugin gets it. A reply that is too long is
@@ -391,10 +391,10 @@ func TestNodeMessagesThatAreTooLong(t *testing.T) {
 	t.Parallel()
 	_, plugin, front := startBoth(t, replies(t, ok("")))
 	tooLong := refused(codes.ResourceExhausted, "grpc: received message larger than max (1048577 vs. 1048576)")
-	front.wants(t, nodeService+"NodeStageVolume", strings.Repeat("00", 1<<20+1), tooLong)
-	plugin.sees(t)
+	front.wantReply(t, nodeService+"NodeStageVolume", strings.Repeat("00", 1<<20+1), tooLong)
+	plugin.wantCalls(t)
 	_, _, front = startBoth(t, replies(t, ok(strings.Repeat("00", 4<<20+1))))
-	front.wants(t, nodeService+"NodeGetInfo", "",
+	front.wantReply(t, nodeService+"NodeGetInfo", "",
 		refused(codes.ResourceExhausted, "grpc: received message larger than max (4194305 vs. 4194304)"))
 }
 
@@ -431,7 +431,7 @@ func TestProbeOfBoth(t *testing.T) {
 			csid := startFake(t, step{write: reply})
 			plugin := startNode(t, nodeSocket(t), replies(t, row.node))
 			front := newClient(t, processes.StartFront(t, csid.socket, "--node", plugin.socket).Socket)
-			front.wants(t, probe, "", row.want)
+			front.wantReply(t, probe, "", row.want)
 		})
 	}
 }
@@ -484,13 +484,13 @@ func TestHealthOfBoth(t *testing.T) {
 			process, monitor := watched(t, row.csid, "--node", row.node, "--health")
 			health := newHealth(t, process.Socket)
 			for service, want := range row.serves {
-				health.wants(t, service, want, codes.OK)
+				health.wantReply(t, service, want, codes.OK)
 			}
 			if code, text := get(t, monitor+"/healthz"); fmt.Sprint(code) != row.status {
 				t.Errorf("/healthz: %d, %q", code, text)
 			}
 			up := map[string]string{"csid_front_node_plugin_up": row.up}
-			wantsSeries(t, series(t, monitor), "csid_front_node_plugin_up", up)
+			wantSeries(t, series(t, monitor), "csid_front_node_plugin_up", up)
 		})
 	}
 }
@@ -504,16 +504,16 @@ func TestMetricsOfNodeCalls(t *testing.T) {
 	process, monitor := watched(t, startFake(t).socket, "--node", plugin.socket)
 	front := newClient(t, process.Socket)
 	for _, path := range []string{stage, stage, nodeService + "Later"} {
-		front.wants(t, path, "", refused(codes.Internal, "mount failed"))
+		front.wantReply(t, path, "", refused(codes.Internal, "mount failed"))
 	}
 	got := series(t, monitor)
-	wantsSeries(t, counted(got), "csid_front_calls_total", map[string]string{
+	wantSeries(t, counted(got), "csid_front_calls_total", map[string]string{
 		`csid_front_calls_total{code="Internal",method="` + stage + `"}`: "2",
 		`csid_front_calls_total{code="Internal",method="other"}`:         "1",
 	})
 	const okInfo = `csid_front_calls_total{code="OK",method="` + info
-	wantsSeries(t, got, okInfo, map[string]string{okInfo + `"}`: "0"})
-	wantsSeries(t, got, "csid_front_call_duration_seconds_count", map[string]string{
+	wantSeries(t, got, okInfo, map[string]string{okInfo + `"}`: "0"})
+	wantSeries(t, got, "csid_front_call_duration_seconds_count", map[string]string{
 		`csid_front_call_duration_seconds_count{method="` + stage + `"}`: "2",
 		`csid_front_call_duration_seconds_count{method="other"}`:         "1",
 	})
@@ -538,12 +538,12 @@ func TestNodeWhileTheFrontStandsBy(t *testing.T) {
 	monitor, front := monitorOf(t, process), newClient(t, process.Socket)
 	serves := func(isReady bool) {
 		t.Helper()
-		front.wants(t, nodeService+"NodeGetInfo", "", ok(ready))
+		front.wantReply(t, nodeService+"NodeGetInfo", "", ok(ready))
 		standing := map[bool]string{true: "0", false: "1"}[isReady]
 		wanted := map[string]string{"csid_front_standing_by": standing}
-		wantsSeries(t, series(t, monitor), "csid_front_standing_by", wanted)
+		wantSeries(t, series(t, monitor), "csid_front_standing_by", wanted)
 		if isReady {
-			front.wants(t, probe, "", ok(ready))
+			front.wantReply(t, probe, "", ok(ready))
 		} else {
 			front.isLost(t, probe, "")
 			front.isLost(t, controller+"ListVolumes", "")
@@ -575,19 +575,19 @@ func TestNodeWhileTheFrontStandsBy(t *testing.T) {
 // of --grace.
 func TestNodeCallHasTheGrace(t *testing.T) {
 	t.Parallel()
-	let, came := make(chan struct{}), make(chan answer, 1)
+	let, replies := make(chan struct{}), make(chan answer, 1)
 	plugin := startNode(t, nodeSocket(t), func(context.Context, string, []byte) ([]byte, error) {
 		<-let
 		return []byte{1}, nil
 	})
 	process := processes.StartFront(t, startFake(t).socket, "--node", plugin.socket)
 	front := newClient(t, process.Socket)
-	go func() { came <- front.send(context.Background(), nodeService+"NodeStageVolume", nil) }()
+	go func() { replies <- front.send(context.Background(), nodeService+"NodeStageVolume", nil) }()
 	plugin.called(t, 1)
 	process.Terminate(t)
 	processes.Eventually(t, "the end of the socket", func() bool { return !processes.IsAnswered(process.Socket) })
 	close(let)
-	if got := <-came; got != ok("01") {
+	if got := <-replies; got != ok("01") {
 		t.Errorf("%v", got)
 	}
 	if status := process.Status(t); status != 0 {

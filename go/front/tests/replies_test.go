@@ -69,10 +69,10 @@ func TestRefusedChange(t *testing.T) {
 	}
 	csid, front := behindFront(t, steps...)
 	for i, row := range rows {
-		front.wants(t, "/a/b", "", refused(row.code, row.text))
-		csid.ended(t, i+1)
+		front.wantReply(t, "/a/b", "", refused(row.code, row.text))
+		csid.waitEnds(t, i+1)
 	}
-	front.wants(t, probe, "", ok(ready))
+	front.wantReply(t, probe, "", ok(ready))
 	if _, ends := csid.seen(); ends != len(rows) {
 		t.Errorf("%d connections ended", ends)
 	}
@@ -84,10 +84,10 @@ func losesOneCall(t *testing.T, does step) {
 	t.Helper()
 	csid, front := behindFront(t, does)
 	front.isLost(t, "/a/b", "01")
-	csid.ended(t, 1)
-	csid.sees(t, "/a/b 01")
-	front.wants(t, probe, "", ok(ready))
-	csid.sees(t, "/a/b 01", probe+" ")
+	csid.waitEnds(t, 1)
+	csid.wantCalls(t, "/a/b 01")
+	front.wantReply(t, probe, "", ok(ready))
+	csid.wantCalls(t, "/a/b 01", probe+" ")
 }
 
 // eachLosesOneCall calls losesOneCall with each of these replies. If closes is true, csid closes
@@ -141,9 +141,9 @@ func TestUnansweredCall(t *testing.T) {
 	t.Parallel()
 	unanswered := refused(codes.Unavailable, "csid: the connection was closed unanswered: see the log of csid")
 	csid, front := behindFront(t, step{close: true})
-	front.wants(t, "/a/b", "", unanswered)
-	csid.ended(t, 1)
-	front.wants(t, probe, "", ok(ready))
+	front.wantReply(t, "/a/b", "", unanswered)
+	csid.waitEnds(t, 1)
+	front.wantReply(t, probe, "", ok(ready))
 	closing := (&fake{closes: true}).start(t)
 	front = newClient(t, processes.StartFront(t, closing.socket).Socket)
 	for _, size := range []int{0, 1048576} {
@@ -157,19 +157,19 @@ func TestUnansweredCall(t *testing.T) {
 func TestReplyThatNobodyAskedFor(t *testing.T) {
 	t.Parallel()
 	csid, front := behindFront(t, step{write: append(okFrame("01"), okFrame("02")...)})
-	front.wants(t, "/a/b", "", ok("01"))
-	front.wants(t, probe, "", ok(ready))
-	csid.ended(t, 1)
+	front.wantReply(t, "/a/b", "", ok("01"))
+	front.wantReply(t, probe, "", ok(ready))
+	csid.waitEnds(t, 1)
 }
 
 // If csid closes a connection between two calls, no call is lost.
 func TestConnectionThatEndsBetweenCalls(t *testing.T) {
 	t.Parallel()
 	csid, front := behindFront(t, step{write: okFrame("01"), close: true}, step{write: okFrame("02"), close: true})
-	front.wants(t, "/a/b", "", ok("01"))
-	csid.ended(t, 1)
-	front.wants(t, "/a/c", "", ok("02"))
-	csid.ended(t, 2)
-	front.wants(t, probe, "", ok(ready))
-	csid.sees(t, "/a/b ", "/a/c ", probe+" ")
+	front.wantReply(t, "/a/b", "", ok("01"))
+	csid.waitEnds(t, 1)
+	front.wantReply(t, "/a/c", "", ok("02"))
+	csid.waitEnds(t, 2)
+	front.wantReply(t, probe, "", ok(ready))
+	csid.wantCalls(t, "/a/b ", "/a/c ", probe+" ")
 }

@@ -86,5 +86,5 @@ func TestRepeatedCallsOverKills(t *testing.T) {
 		t.Error("no call was lost: this shows nothing")
 	}
 	stand := controller + "ListVolumes"
-	front.wants(t, stand, "", calm.call(t, stand, ""))
+	front.wantReply(t, stand, "", calm.call(t, stand, ""))
 }

@@ -52,7 +52,7 @@ func TestDeadSocketGivesWay(t *testing.T) {
 	t.Parallel()
 	csid := startFake(t)
 	front := frontAt(t, csid.socket, deadSocket(t)).Answers(t)
-	newClient(t, front.Socket).wants(t, probe, "", ok(ready))
+	newClient(t, front.Socket).wantReply(t, probe, "", ok(ready))
 }
 
 func TestLiveSocketStays(t *testing.T) {
@@ -60,7 +60,7 @@ func TestLiveSocketStays(t *testing.T) {
 	csid := startFake(t)
 	front := processes.StartFront(t, csid.socket)
 	refuses(t, frontAt(t, csid.socket, front.Socket), 7, "somebody answers")
-	newClient(t, front.Socket).wants(t, probe, "", ok(ready))
+	newClient(t, front.Socket).wantReply(t, probe, "", ok(ready))
 }
 
 func TestOtherFilesStay(t *testing.T) {
@@ -113,7 +113,7 @@ func TestFrontsThatStartTogether(t *testing.T) {
 	if len(left()) != 1 {
 		t.Fatal("no front lives")
 	}
-	newClient(t, left()[0].Answers(t).Socket).wants(t, probe, "", ok(ready))
+	newClient(t, left()[0].Answers(t).Socket).wantReply(t, probe, "", ok(ready))
 }
 
 func TestEndpoint(t *testing.T) {
@@ -122,7 +122,7 @@ func TestEndpoint(t *testing.T) {
 		csid, socket := startFake(t), filepath.Join(processes.Folder(t), "csi.sock")
 		command := exec.Command(processes.FrontProgram(t), "--csid", csid.socket)
 		command.Env = append(os.Environ(), "CSI_ENDPOINT="+scheme+socket)
-		newClient(t, processes.Start(t, socket, command).Answers(t).Socket).wants(t, probe, "", ok(ready))
+		newClient(t, processes.Start(t, socket, command).Answers(t).Socket).wantReply(t, probe, "", ok(ready))
 	}
 	command := exec.Command(processes.FrontProgram(t), "--csid", "csid.sock")
 	command.Env = append(os.Environ(), "CSI_ENDPOINT=tcp://127.0.0.1:10000")
@@ -143,7 +143,7 @@ func TestTermDuringACall(t *testing.T) {
 	if _, err := os.Lstat(process.Socket); !os.IsNotExist(err) {
 		t.Errorf("the socket: %v", err)
 	}
-	running.csid.sees(t, "/a/b ")
+	running.csid.wantCalls(t, "/a/b ")
 }
 
 // If another front has replaced the socket of a front, the end of the first front does not remove
@@ -160,24 +160,24 @@ func TestTermBehindAnotherFront(t *testing.T) {
 	if status := first.Status(t); status != 0 {
 		t.Errorf("status %d", status)
 	}
-	newClient(t, second.Socket).wants(t, probe, "", ok(ready))
+	newClient(t, second.Socket).wantReply(t, probe, "", ok(ready))
 }
 
 // SIGTERM and SIGINT end a front on which no call runs.
 func TestTermWithoutACall(t *testing.T) {
 	t.Parallel()
-	for _, asked := range []os.Signal{syscall.SIGTERM, syscall.SIGINT} {
+	for _, sent := range []os.Signal{syscall.SIGTERM, syscall.SIGINT} {
 		csid := startFake(t)
 		process := processes.StartFront(t, csid.socket)
-		newClient(t, process.Socket).wants(t, probe, "", ok(ready))
-		if err := process.Process.Signal(asked); err != nil {
+		newClient(t, process.Socket).wantReply(t, probe, "", ok(ready))
+		if err := process.Process.Signal(sent); err != nil {
 			t.Fatal(err)
 		}
 		if status := process.Status(t); status != 0 || process.Log.String() != "" {
-			t.Errorf("%v: status %d, logged %q", asked, status, process.Log)
+			t.Errorf("%v: status %d, logged %q", sent, status, process.Log)
 		}
 		if _, err := os.Lstat(process.Socket); !os.IsNotExist(err) {
-			t.Errorf("%v: the socket: %v", asked, err)
+			t.Errorf("%v: the socket: %v", sent, err)
 		}
 	}
 }
@@ -192,7 +192,7 @@ func TestTermWithAClientThatSaysNothing(t *testing.T) {
 		t.Fatal(err)
 	}
 	defer silent.Close()
-	newClient(t, process.Socket).wants(t, probe, "", ok(ready))
+	newClient(t, process.Socket).wantReply(t, probe, "", ok(ready))
 	process.Terminate(t)
 	if status := process.Status(t); status != 0 || process.Log.String() != "" {
 		t.Errorf("status %d, logged %q", status, process.Log)
@@ -246,7 +246,7 @@ func TestTermWithACallThatWasGivenUp(t *testing.T) {
 	if status := process.Status(t); status != 0 {
 		t.Errorf("status %d, wanted 0", status)
 	}
-	csid.ended(t, 1)
+	csid.waitEnds(t, 1)
 	csid.mutex.Lock()
 	defer csid.mutex.Unlock()
 	if csid.error != nil {
@@ -261,7 +261,7 @@ func TestTermWithoutGrace(t *testing.T) {
 	for i := 0; i < 20; i++ {
 		process := processes.StartFront(t, csid.socket, "--grace", "0s", "--control",
 			filepath.Join(processes.Folder(t), "control.sock"))
-		newClient(t, process.Socket).wants(t, probe, "", ok(ready))
+		newClient(t, process.Socket).wantReply(t, probe, "", ok(ready))
 		process.Terminate(t)
 		if status := process.Status(t); status != 0 || process.Log.String() != "" {
 			t.Errorf("end %d: status %d, logged %q", i, status, process.Log)
@@ -353,7 +353,7 @@ func TestFolderThatStaysLocked(t *testing.T) {
 		t.Fatal(err)
 	}
 	front := frontAt(t, startFake(t).socket, socket).Answers(t)
-	newClient(t, front.Socket).wants(t, probe, "", ok(ready))
+	newClient(t, front.Socket).wantReply(t, probe, "", ok(ready))
 	front.Terminate(t)
 	if status := front.Status(t); status != 0 {
 		t.Errorf("status %d", status)

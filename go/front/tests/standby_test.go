@@ -59,15 +59,15 @@ func TestStandbyWaits(t *testing.T) {
 	if status, text := get(t, monitor+"/livez"); status != http.StatusOK || text != "ok\n" {
 		t.Errorf("/livez: %d, %q", status, text)
 	}
-	wantsSeries(t, series(t, monitor), "csid_front_csid_up", map[string]string{"csid_front_csid_up": "0"})
-	wantsSeries(t, series(t, monitor), "csid_front_standing_by", map[string]string{"csid_front_standing_by": "1"})
+	wantSeries(t, series(t, monitor), "csid_front_csid_up", map[string]string{"csid_front_csid_up": "0"})
+	wantSeries(t, series(t, monitor), "csid_front_standing_by", map[string]string{"csid_front_standing_by": "1"})
 	if after, err := os.Lstat(front.Socket); err != nil || !os.SameFile(before, after) ||
 		processes.IsAnswered(front.Socket) {
 		t.Errorf("the socket while it waits: %v, %v", after, err)
 	}
 	csid := (&fake{socket: path, steps: []step{{close: true}, {write: okFrame("0a020800")}}}).start(t)
-	newClient(t, front.Answers(t).Socket).wants(t, probe, "", ok(ready))
-	csid.sees(t, probe+" ", probe+" ", probe+" ", probe+" ")
+	newClient(t, front.Answers(t).Socket).wantReply(t, probe, "", ok(ready))
+	csid.wantCalls(t, probe+" ", probe+" ", probe+" ", probe+" ")
 	lines := []string{
 		"waits for csid: " + absent,
 		"waits for csid: the connection was closed unanswered: see the log of csid",
@@ -82,7 +82,7 @@ func TestStandbyWaits(t *testing.T) {
 	if status, text := get(t, monitor+"/healthz"); status != http.StatusOK || text != "ok\n" {
 		t.Errorf("/healthz: %d, %q", status, text)
 	}
-	wantsSeries(t, series(t, monitor), "csid_front_standing_by", map[string]string{"csid_front_standing_by": "0"})
+	wantSeries(t, series(t, monitor), "csid_front_standing_by", map[string]string{"csid_front_standing_by": "0"})
 }
 
 // A front that waits for csid ends at a signal, and leaves the file of an earlier front's socket.
@@ -93,7 +93,7 @@ func TestTermWhileItWaits(t *testing.T) {
 		if name == "mute" {
 			csid.called(t, 1)
 		} else {
-			csid.ended(t, 1)
+			csid.waitEnds(t, 1)
 			processes.Eventually(t, "a line", func() bool { return front.Log.String() != "" })
 		}
 		begin := time.Now()
@@ -135,7 +135,7 @@ func TestStandbyThatFindsAnother(t *testing.T) {
 		}
 		says(t, front, row.line)
 	}
-	newClient(t, other.Socket).wants(t, probe, "", ok(ready))
+	newClient(t, other.Socket).wantReply(t, probe, "", ok(ready))
 }
 
 // If csid closes each connection for the time of --standby, the front ends and removes its socket.
@@ -180,22 +180,22 @@ func TestStandbyEndsDuringACall(t *testing.T) {
 		name, grace := name, grace
 		t.Run(name, func(t *testing.T) {
 			t.Parallel()
-			let, came := make(chan struct{}), make(chan answer)
+			let, replies := make(chan struct{}), make(chan answer)
 			csid := startFake(t, step{write: okFrame(ready)}, step{wait: let, write: okFrame("01")})
 			process := standingBy(t, csid.socket, "1s", "--grace", grace).Answers(t)
 			front := newClient(t, process.Socket)
-			go func() { came <- front.send(soon(t, processes.Patience), "/a/b", nil) }()
+			go func() { replies <- front.send(soon(t, processes.Patience), "/a/b", nil) }()
 			csid.called(t, 2)
 			processes.Eventually(t, "the end of the socket",
 				func() bool { return !processes.IsAnswered(process.Socket) })
 			wants := []string{"csid is ready", "nothing was answered by csid for 1s: context deadline exceeded"}
 			if name == "answered" {
 				close(let)
-				if got := <-came; got != ok("01") {
+				if got := <-replies; got != ok("01") {
 					t.Errorf("%v", got)
 				}
 			} else {
-				<-came
+				<-replies
 				close(let)
 				wants = append(wants, "ended, and cut calls off")
 			}
@@ -219,7 +219,7 @@ func TestStandbyWithoutCalls(t *testing.T) {
 	csid := startFake(t)
 	front := standingBy(t, csid.socket, "1s").Answers(t)
 	time.Sleep(1500 * time.Millisecond)
-	newClient(t, front.Socket).wants(t, probe, "", ok(ready))
+	newClient(t, front.Socket).wantReply(t, probe, "", ok(ready))
 	if calls, ends := csid.seen(); len(calls) < 3 || len(calls) > 8 || ends != 0 {
 		t.Errorf("%d calls, %d connections ended", len(calls), ends)
 	}
