@@ -3,7 +3,6 @@
 import contextlib
 import os
 import re
-import shlex
 import shutil
 import socket
 import sqlite3
@@ -12,7 +11,8 @@ import subprocess
 from tests.support.configs import sample
 from tests.support.frames import (CREATE_A, CREATE_B, ONE, PROBE, READY, READ_FAILED, VOLUME_1, VOLUME_2,
                                   controller, fault, frame, refusal, reply)
-from tests.support.processes import SECONDS, fill, little_room, no_byte, no_room, read, run, small_disk, write
+from tests.support.processes import (SECONDS, fill, little_room, memory_of, no_byte, no_room, read, run,
+                                     small_disk, write)
 from tests.support.rows import CsidTest, each
 from tests.support.server import DOWN, NEW, Server
 from tests.support.tables import (BLOCK_CAPS, DAMAGED, FULL, IO_FAILED, LOCKED, MANY, MIB, NO_DATABASE,
@@ -326,19 +326,15 @@ class RefusedCopyTest(DiskTest):
     """A read fails while the volumes are copied into memory for a connection."""
 
     def serve_once(self, *injected):
-        """Runs a csid that serves one connection with a Probe. Returns the number of its reads, its reply and
-        its lines. Skips the test if strace cannot be run."""
-        trace, traced = (os.path.join(self.folder, name) for name in ("trace", "traced"))
-        command = ["strace", "-f", "-o", trace, "-e", "trace=pread64", *injected, self.csid]
-        write(traced, b'#!/bin/sh\nexec %s "$@"\n' % shlex.join(command).encode())
-        os.chmod(traced, 0o755)
-        if shutil.which("strace") is None or run([traced, "--version"])[2] != 0:
-            self.skipTest("strace cannot be run here")
-        server = Server(traced, self.folder, "--config", self.configure_much(), "--connections", "1")
+        """Runs a csid that serves one connection with a Probe. The pages of the file do not all have room in
+        memory, and the copy reads them again. Returns the number of reads, the reply and the lines."""
+        traced = self.traced("-e", "trace=pread64", *injected)
+        server = Server(traced, self.folder, "--config", self.configure_much(), "--connections", "1",
+                        preexec_fn=memory_of(64 << 20))
         self.addCleanup(server.end)
         answer = server.ask(frame(PROBE))
         server.process.wait(SECONDS)
-        return read(trace).count(b"pread64("), answer, server.end()[0].splitlines()
+        return read(self.trace).count(b"pread64("), answer, server.end()[0].splitlines()
 
     def test_cause_is_reported(self):
         params = "UPDATE volumes SET params = %s;" % cell(pairs(4, b"k", 4090))

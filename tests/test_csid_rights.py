@@ -3,11 +3,9 @@
 
 import os
 import re
-import shlex
-import shutil
 
 from tests.support.frames import CREATE_A, VOLUME_1, controller, reply
-from tests.support.processes import SECONDS, run, write
+from tests.support.processes import SECONDS
 from tests.support.rows import CsidTest
 from tests.support.server import Server
 
@@ -25,17 +23,11 @@ class RightsTest(CsidTest):
     def setUp(self):
         super().setUp()
         self.socket = os.path.join(self.folder, "csid.sock")
-        self.trace = os.path.join(self.folder, "trace")
-        self.traced = os.path.join(self.folder, "traced")
-        command = [shutil.which("strace") or "strace", "-f", "-y", "-o", self.trace, "-e", CALLS, self.csid]
-        write(self.traced, b'#!/bin/sh\nexec %s "$@"\n' % shlex.join(command).encode())
-        os.chmod(self.traced, 0o755)
-        if shutil.which("strace") is None or run([self.traced, "--version"])[2] != 0:
-            self.skipTest("strace cannot be run here")
+        self.program = self.traced("-y", "-e", CALLS)
 
     def calls(self, *words):
         """Returns the system calls of a server that makes one volume and ends."""
-        server = Server(self.traced, self.folder, "--connections", "1", *words,
+        server = Server(self.program, self.folder, "--connections", "1", *words,
                         preexec_fn=lambda: os.umask(0) and None)
         self.addCleanup(server.end)
         self.assertEqual(server.ask(controller("CreateVolume", CREATE_A)), reply(VOLUME_1))

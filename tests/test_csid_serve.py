@@ -3,6 +3,7 @@
 import contextlib
 import fcntl
 import os
+import re
 import resource
 import shlex
 import signal
@@ -13,7 +14,7 @@ import time
 from tests.support.configs import sample
 from tests.support.frames import (BLOCK, CREATE_A, CREATE_B, LONGEST, ONE, PROBE, READY, VOLUME_1, VOL_1,
                                   controller, fault, frame, reply)
-from tests.support.processes import SECONDS, copy_for_nobody, has_ended, run, wait, write
+from tests.support.processes import SECONDS, copy_for_nobody, has_ended, read, run, wait, write
 from tests.support.rows import CsidTest, each
 from tests.support.server import CROWDED, GONE, IDLE, KILLED, NEW, SLOW, Server, ended
 from tests.support.tables import (BLOCK_CAPS, MANY, MIB, NO_DATABASE, NO_FILE, POOL, Tables, next_is,
@@ -105,6 +106,89 @@ class SurveyTest(ServeTest):
         write(path, b"")
         self.assertEqual(self.serve().end(), (line_of(path + ": a file exists there already"), 7, True))
         self.assertEqual(os.listdir(self.folder), [])
+
+
+class StoppedServer(Server):
+    """A csid under strace that stops when its socket listens, before it opens the tables."""
+
+    CALLS = "-e", "trace=listen,openat", "-e", "inject=listen:signal=SIGSTOP"
+
+    def __init__(self, traced, folder, trace):
+        self.trace = trace
+        super().__init__(traced, folder)
+
+    def wait_for_begin(self):
+        if not wait(lambda: b"listen(" in read(self.trace)):
+            raise ValueError("csid serve does not listen")
+        self.csid = int(re.search(rb"(?m)^(\d+) +listen\(", read(self.trace))[1])
+
+    def go_on(self):
+        """Returns after csid has reported what the tables have."""
+        os.kill(self.csid, signal.SIGCONT)
+        super().wait_for_begin()
+
+    def openings(self):
+        """Returns the number of times that csid has opened the existing file of tables to write it."""
+        return read(self.trace).count(b'"%s", O_RDWR|O_NOCTTY' % self.tables.encode())
+
+    def end(self):
+        with contextlib.suppress(ProcessLookupError):
+            os.kill(self.csid, signal.SIGKILL)
+        return super().end()
+
+
+class FirstPeerTest(ServeTest):
+    """A connection that is there before csid opens the tables."""
+
+    def stopped(self):
+        server = StoppedServer(self.traced(*StoppedServer.CALLS), self.folder, self.trace)
+        self.addCleanup(server.end)
+        return server
+
+    def test_its_calls_are_answered_over_the_first_opening(self):
+        server = self.stopped()
+        peer = self.connect(server, controller("CreateVolume", CREATE_A))
+        server.go_on()
+        self.assertEqual(peer.recv(4096), reply(VOLUME_1))
+        peer.sendall(controller("ListVolumes"))
+        self.assertEqual(peer.recv(4096), ONE)
+        self.assertEqual(server.openings(), 1)
+        peer.close()
+        self.assertEqual(server.ask(controller("ListVolumes")), ONE)
+        self.assertEqual(server.openings(), 2)
+        self.assertEqual(server.end(), (server.line(NEW) + server.has(0, 0, 1), KILLED, True))
+
+    def test_call_that_has_come_in_part_is_answered(self):
+        """The second part comes after the tables are open."""
+        server = self.stopped()
+        call = frame(PROBE, LONGEST)
+        peer = self.connect(server, call[:5000])
+        server.go_on()
+        peer.sendall(call[5000:])
+        self.assertEqual(peer.recv(4096), READY)
+
+    def test_connection_without_a_call_is_refused(self):
+        server = self.stopped()
+        peer = self.connect(server, b"garbage")
+        server.go_on()
+        self.assertEqual(peer.recv(4096), fault("bad path length at byte 0")[0])
+        self.assertEqual(server.ask(frame(PROBE)), READY)
+
+    def test_peer_that_has_gone_is_reported(self):
+        server = self.stopped()
+        with server.connect() as peer:
+            peer.sendall(controller("CreateVolume", CREATE_A))
+        server.go_on()
+        self.assertEqual(server.ask(controller("ListVolumes")), reply(b""))
+        self.assertEqual(server.end()[0], server.line(NEW) + GONE + server.has(0, 0, 1))
+
+    def test_connection_over_a_broken_file_is_closed(self):
+        write(self.tables.path, b"x" * 5000)
+        server = self.stopped()
+        peer = self.connect(server, frame(PROBE))
+        server.go_on()
+        self.assertEqual(peer.recv(4096), b"")
+        self.assertEqual(server.end()[0], server.line(NO_DATABASE) * 2)
 
 
 class AccessTest(ServeTest):

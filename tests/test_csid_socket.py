@@ -176,12 +176,12 @@ class ScarceTest(SocketTest):
         return server, "csid: %s: %s\n" % (server.tables, NO_FILE)
 
     @each([(4, False), (5, True)])
-    def test_server_without_descriptors_for_its_socket_ends(self, count, is_made):
-        """With four descriptors no file of tables is made. With five the file is made, but the tables cannot
-        be opened."""
+    def test_server_without_descriptors_for_its_socket_ends(self, count, is_tried):
+        """With four descriptors the server ends before it tries to open the tables. No file is made."""
         server, no_file = self.serve_two(handles(count))
-        self.assertEqual(server.end(), (no_file + "csid: %s: %s\n" % (server.path, NO_HANDLE), 7))
-        self.assertEqual(os.path.exists(server.tables), is_made)
+        lines = (no_file if is_tried else "") + "csid: %s: %s\n" % (server.path, NO_HANDLE)
+        self.assertEqual(server.end(), (lines, 7))
+        self.assertFalse(os.path.exists(server.tables))
 
     def test_connection_without_descriptors_for_the_tables_is_closed(self):
         server, no_file = self.serve_two(handles(6))

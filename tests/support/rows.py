@@ -3,13 +3,14 @@
 import os
 import pathlib
 import re
+import shlex
 import shutil
 import signal
 import tempfile
 import unittest
 import warnings
 
-from tests.support.processes import SECONDS, TOP, place, program, write
+from tests.support.processes import SECONDS, TOP, place, program, run, write
 from tests.support.server import Server
 from tests.support.tables import Tables
 
@@ -115,6 +116,18 @@ class CsidTest(RowTest):
         server = Server(self.csid, self.folder, *words, **how)
         self.addCleanup(server.end)
         return server
+
+    def traced(self, *options):
+        """Makes a program that runs csid under strace with these options. The system calls go to the file
+        `trace` in the folder of the test. Returns the path of the program. Skips the test if strace cannot be
+        run."""
+        self.trace, path = (os.path.join(self.folder, name) for name in ("trace", "traced"))
+        command = shlex.join(["strace", "-f", "-o", self.trace, *options, self.csid])
+        write(path, b'#!/bin/sh\nexec %s "$@"\n' % command.encode())
+        os.chmod(path, 0o755)
+        if shutil.which("strace") is None or run([path, "--version"])[2] != 0:
+            self.skipTest("strace cannot be run here")
+        return path
 
     def configure(self, content):
         """Writes the configuration. Returns its path."""

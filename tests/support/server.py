@@ -83,7 +83,11 @@ class Server(Served):
         self.tables = tables or os.path.join(folder, "volumes.db")
         words = [csid, "serve", "--socket", self.path, "--tables", self.tables, *words]
         self.begin(words, stdout=subprocess.DEVNULL, **how)
-        # Before csid takes the first connection, it reports what the tables have, or why they are unusable.
+        self.wait_for_begin()
+
+    def wait_for_begin(self):
+        """Waits until csid has reported what the tables have, or why they are unusable. csid answers no call
+        before that."""
         told = re.compile("(?m)^csid: %s: (?!%s).*\n" % (re.escape(self.tables), NEW))
         if not wait(lambda: told.search(self.lines()) or self.process.poll() is not None):
             raise ValueError("csid serve does not begin")

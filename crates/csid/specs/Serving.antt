@@ -1,5 +1,5 @@
 -- The results of calls over the files at a path, and how the program reports them.
-use Rattle.std.specs.Prelude.{◌≡◌, ◌⊎◌, ℕ, true, false, List, [], Option, None, Some, Result, Ok, Err, IfOk, IfErr, IsErrAnd, IsTrue}
+use Rattle.std.specs.Prelude.{◌≡◌, ◌⊎◌, ℕ, false, List, Option, None, Some, Result, Ok, Err, IfOk, IfErr, IsErrAnd, IsTrue}
 use Rattle.sqlite_disk.specs.declared.modelled.Modelled.{Modelled}
 use Rattle.sqlite_disk.specs.declared.Disk as disk
 use Rattle.sqlite_disk.specs.declared.start.Start as start
@@ -68,7 +68,3 @@ module _ {S : Type 0} (first : start.Ghosts S) (config : Config) (file : TablesF
   -- the calls among these bytes were served
   abbrev pub IsServed : Option (List ℕ) → Option (List ℕ) → Option (List ℕ) → Result RunReport TablesFailure → Type 0
   IsServed unread held holds said = (left : Option (List ℕ)) × IsAnswered (streams unread left held holds) said
-
--- a run without calls over the files, which were not copied into memory
-abbrev pub IsSurveyed : {S : Type 0} → start.Ghosts S → Config → TablesFile → Result RunReport TablesFailure → Type 0
-IsSurveyed first config file said = (held holds : Option (List ℕ)) × IsServed first config (record file { is_low_memory = true }) (Some []) held holds said

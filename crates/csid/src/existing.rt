@@ -28,9 +28,10 @@ const OPENING_FACTOR: u64 = 6;
 // is less.
 const LEAST_CACHE_PAGES: u64 = 2000;
 
-// An opening keeps at most half of the pages of a file in memory. The index of names has a third of the
-// file's pages, and an opening reads them in random order.
-const CACHE_SHARE: u64 = 2;
+// With `--low-memory`, an opening keeps at most half of the pages of a file in memory. Without it, an opening
+// may keep all pages and reads each page once. The index of names has a third of the pages, and an opening
+// reads them in random order.
+const LOW_MEMORY_SHARE: u64 = 2;
 
 // The greatest number of bytes of pages that an opening keeps in memory: 64 MiB.
 const CACHE_BYTES: u64 = 1 << 26;
@@ -177,18 +178,23 @@ fn cache_pages(rt: &HostRuntime, count: u64, page_bytes: u64) -> u64
 }
 
 /// Returns the limits of memory for opening the file of tables. They depend on the size of the file and of
-/// its WAL. For a file that does not exist or whose size is not known, `bytes` is 0 and `cache_pages` is
-/// 2,000.
-pub(crate) fn opening_limits(rt: &HostRuntime, path: &str) -> OpeningLimits
+/// its WAL. If `is_low_memory` is true, at most half of the pages are kept in memory. For a file that does
+/// not exist or whose size is not known, `bytes` is 0 and `cache_pages` is 2,000.
+pub(crate) fn opening_limits(rt: &HostRuntime, path: &str, is_low_memory: bool) -> OpeningLimits
     ensures least { 2000 ≤ result.cache_pages }
 {
     let none = Pages { bytes: 0, free: 0 };
     let pages = pages_of(rt, path).unwrap_or(none);
     let bytes = bytes_of(rt, path, pages).unwrap_or(0);
     let count = bytes.checked_div(pages.bytes).unwrap_or(0);
+    let kept = if is_low_memory {
+        count / LOW_MEMORY_SHARE
+    } else {
+        count
+    };
     OpeningLimits {
         bytes: bytes.saturating_mul(OPENING_FACTOR) as usize,
-        cache_pages: cache_pages(rt, count / CACHE_SHARE, pages.bytes) as usize,
+        cache_pages: cache_pages(rt, kept, pages.bytes) as usize,
     }
 }
 

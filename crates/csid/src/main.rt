@@ -17,13 +17,13 @@
 mod change_store;
 mod checks;
 mod existing;
+mod first;
 mod making;
 mod places;
 mod room;
 mod run;
 mod serving;
 mod socket;
-mod survey;
 mod tables;
 mod timed;
 

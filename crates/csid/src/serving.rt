@@ -122,7 +122,7 @@ impl<O: Observer> TablesRun<'_, O> {
         if let Err(cause) = prepare(&self.rt, &self.file) {
             return Err(TablesFailure::unserved(cause));
         }
-        let limits = opening_limits(&self.rt, path);
+        let limits = opening_limits(&self.rt, path, is_low_memory);
         let run = Run {
             alloc: self.rt.alloc(),
             config: self.config,

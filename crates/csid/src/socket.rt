@@ -5,10 +5,10 @@ ghost use Rattle.csid.specs.Leading.{IsUsable};
 ghost use Rattle.csid_settings.specs.Statuses.{IsOrNoMemory};
 
 use crate::change_store::{ChangeStoreLeadership, OpenChangeStore, open_change_store};
+use crate::first::serve_first;
 use crate::room::MemoryGauge;
 use crate::run::FIRST_NUMBER;
 use crate::serving::{TablesFailure, TablesRun};
-use crate::survey::survey;
 use crate::tables::{NEW_TABLES, check_file};
 use csi_adoption::Content;
 use csi_config::Config;
@@ -20,7 +20,7 @@ use csid_connections::{
     Always, GuardedWriter, Leadership, Pending, Start, Turn, Waiting, has_gone, report_ending,
 };
 use csid_console::{Console, Ending};
-use csid_settings::{Endpoint, Failure, Serving, Volumes, group_number, outcome};
+use csid_settings::{Endpoint, Failure, Serving, TablesFile, Volumes, group_number, outcome};
 use sqlite::{Error, Unknown};
 use std::alloc::Global;
 use std::cell::Cell;
@@ -118,19 +118,21 @@ fn report_end(console: &Console<'_>, ending: Option<Ending>, is_cut: bool, end: 
 
 /// The parts of a server that all its connections share.
 #[derive(Clone, Copy)]
-struct Service<'a> {
-    console: &'a Console<'a>,
-    config: &'a Config,
+pub(crate) struct Service<'a> {
+    /// The console, to which errors are reported that no reply shows.
+    pub(crate) console: &'a Console<'a>,
+    /// The configuration under which calls are answered.
+    pub(crate) config: &'a Config,
     serving: &'a Serving<'a>,
     gauge: &'a MemoryGauge,
 }
 
-// Begins the turn of a connection, in which its calls are answered. After an error, reports the error and
-// returns `None`.
-fn turn_of<'a>(
+/// Begins the turn of a connection, in which its calls are answered. After an error, reports the error and
+/// returns `None`.
+pub(crate) fn turn_of<'a>(
     console: &'a Console<'a>,
     waiting: &'a mut Waiting,
-    peer: &'a Pending,
+    peer: Pending,
 ) -> Option<Turn<'a>> {
     match Turn::new(console, peer, waiting) {
         Ok(turn) => Some(turn),
@@ -147,13 +149,13 @@ fn serve_one<K: Keeper, L: Leadership + Drop>(
     service: &Service<'_>,
     waiting: &mut Waiting,
     keeper: &mut K,
-    peer: &Pending,
+    peer: Pending,
     lead: L,
 ) -> bool {
     let Some(turn) = turn_of(service.console, waiting, peer) else {
         return false;
     };
-    let mut reader = peer.first.sent.as_slice().chain(turn.reader());
+    let mut reader = turn.peer.first.sent.as_slice().chain(turn.reader());
     let mut writer = GuardedWriter::new(lead, turn.writer());
     let end = serve(
         service.console.rt.alloc(),
@@ -168,7 +170,7 @@ fn serve_one<K: Keeper, L: Leadership + Drop>(
 
 // Answers a connection that has sent no call: its first frame is malformed, or its stream has ended before a
 // complete frame. The tables are not opened.
-fn refuse_peer(service: &Service<'_>, waiting: &mut Waiting, peer: &Pending) {
+fn refuse_peer(service: &Service<'_>, waiting: &mut Waiting, peer: Pending) {
     match MemKeeper::new(service.console.rt.alloc(), FIRST_NUMBER) {
         Ok(mut keeper) => {
             serve_one(service, waiting, &mut keeper, peer, Always);
@@ -192,12 +194,23 @@ const NO_READ: &str = "the database refused a read";
 const NO_COPY: &str =
     "there was no memory for a copy of the volumes: each read of the connection goes to the file";
 
-// Reports how the calls of a connection are served over a file.
+/// Reports how the calls of a connection are served over a file.
 #[derive(Clone, Copy)]
-struct Announcer<'a> {
+pub(crate) struct Announcer<'a> {
     console: &'a Console<'a>,
     path: &'a str,
     gauge: &'a MemoryGauge,
+}
+
+impl<'a> Announcer<'a> {
+    /// Makes the announcer of a server for the file at this path.
+    pub(crate) fn new(service: &Service<'a>, path: &'a str) -> Announcer<'a> {
+        Announcer {
+            console: service.console,
+            path,
+            gauge: service.gauge,
+        }
+    }
 }
 
 impl Observer for Announcer<'_> {
@@ -233,8 +246,8 @@ fn report_calls(console: &Console<'_>, path: &str, report: &RunReport) {
     }
 }
 
-// Reports how the calls of a connection over tables ended, and the failure of the tables if there is one.
-fn report_run(
+/// Reports how the calls of a connection over tables ended, and the failure of the tables if there is one.
+pub(crate) fn report_run(
     console: &Console<'_>,
     path: &str,
     ending: Option<Ending>,
@@ -308,7 +321,7 @@ fn serve_open(
     waiting: &mut Waiting,
     path: &str,
     mut store: OpenChangeStore,
-    peer: &Pending,
+    peer: Pending,
 ) -> OpenChangeStore
     requires { IsUsable store }
 {
@@ -339,7 +352,7 @@ fn serve_over_change_store(
     waiting: &mut Waiting,
     path: &str,
     change_store: &mut KnownChangeStore,
-    peer: &Pending,
+    peer: Pending,
 ) {
     let console = service.console;
     match existing_change_store(console, service.config, path, change_store.open.take()) {
@@ -361,64 +374,69 @@ fn report_gone(console: &Console<'_>, peer: &Pending) {
     }
 }
 
-// Opens the tables of a server and serves the calls of a connection: first the calls in `sent`, then the
-// calls from the reader. Reports errors that no reply shows. Does nothing if the volumes are in a change
-// store.
-fn serve_tables<R: Read, W: Write>(
-    service: &Service<'_>,
+// Opens the tables in a file and serves the calls of a connection: first the calls in `sent`, then the calls
+// from the reader. Reports errors that no reply shows.
+fn serve_tables<'a, R: Read, W: Write>(
+    service: &Service<'a>,
+    file: TablesFile<'a>,
     sent: &[u8],
     ending: &Cell<Option<Ending>>,
     reader: &mut R,
     writer: &mut W,
 ) {
-    let Service {
-        console,
-        config,
-        serving,
-        gauge,
-    } = *service;
-    let Volumes::Tables(file) = serving.volumes else {
-        return;
-    };
-    let announcer = Announcer {
-        console,
-        path: file.path,
-        gauge,
-    };
+    let announcer = Announcer::new(service, file.path);
     let run = TablesRun {
-        rt: *console.rt,
-        config,
+        rt: *service.console.rt,
+        config: service.config,
         file,
         observer: &announcer,
     };
     let ended = run.serve_file(Unknown, sent, reader, writer);
-    report_run(console, file.path, ending.get(), ended);
+    report_run(service.console, file.path, ending.get(), ended);
 }
 
-// Answers the calls of one connection. If the peer has closed the connection, the tables are not opened: the
-// peer may have given up its call while another connection was served.
-fn serve_peer<'a>(
-    service: &'a Service<'a>,
-    waiting: &'a mut Waiting,
-    change_store: &mut KnownChangeStore,
-    peer: &'a Pending,
-) {
-    let console = service.console;
+/// Returns the connection if the volumes are needed to serve it. If the peer has closed the connection, it is
+/// only reported: the peer may have given up its call while another connection was served. If the connection
+/// has sent no call, it is answered here.
+pub(crate) fn with_call(
+    service: &Service<'_>,
+    waiting: &mut Waiting,
+    peer: Pending,
+) -> Option<Pending> {
     if has_gone(&peer.stream) {
-        return report_gone(console, peer);
+        report_gone(service.console, &peer);
+        return None;
     }
     if matches!(peer.first.start, Some(Start::NoCall)) {
-        return refuse_peer(service, waiting, peer);
+        refuse_peer(service, waiting, peer);
+        return None;
     }
-    if let Volumes::ChangeStore(path) = service.serving.volumes {
-        return serve_over_change_store(service, waiting, path, change_store, peer);
-    }
-    let Some(turn) = turn_of(console, waiting, peer) else {
+    Some(peer)
+}
+
+// Answers the calls of one connection. If the peer is gone or has sent no call, the volumes are not opened.
+fn serve_peer(
+    service: &Service<'_>,
+    waiting: &mut Waiting,
+    change_store: &mut KnownChangeStore,
+    peer: Pending,
+) {
+    let Some(peer) = with_call(service, waiting, peer) else {
         return;
     };
-    let sent = peer.first.sent.as_slice();
+    let file = match service.serving.volumes {
+        Volumes::ChangeStore(path) => {
+            return serve_over_change_store(service, waiting, path, change_store, peer);
+        }
+        Volumes::Tables(file) => file,
+    };
+    let Some(turn) = turn_of(service.console, waiting, peer) else {
+        return;
+    };
+    let sent = turn.peer.first.sent.as_slice();
     serve_tables(
         service,
+        file,
         sent,
         &turn.ending,
         &mut turn.reader(),
@@ -443,32 +461,12 @@ fn first_change_store(service: &Service<'_>) -> KnownChangeStore {
     change_store
 }
 
-// Binds the socket of a server, and then opens and checks its tables once. A change store is not opened here.
-// The socket is bound first, so that a second server at the same socket does not open the file of the first.
-fn listen_over<'a>(
-    console: &'a Console<'a>,
-    config: &'a Config,
-    serving: &Serving<'a>,
-) -> Result<UnixListener, Failure> {
-    let file = match serving.volumes {
-        Volumes::ChangeStore(_) => return listen(console.rt, serving.socket, serving.group),
-        Volumes::Tables(file) => file,
-    };
-    check_file(console.rt, &file)?;
-    let listener = listen(console.rt, serving.socket, serving.group)?;
-    survey(console, config, &file);
-    Ok(listener)
-}
-
-// Makes the queue of connections at a socket. Fails if the system refuses to poll the socket, or memory is
-// refused.
-fn waiting_at(
-    rt: &HostRuntime,
-    serving: &Serving<'_>,
-    listener: UnixListener,
-) -> Result<Waiting, Failure>
+// Binds the socket of a server, and makes the queue of the connections to it. Fails if the socket cannot be
+// bound, the system refuses to poll the socket, or memory is refused.
+fn waiting_at(rt: &HostRuntime, serving: &Serving<'_>) -> Result<Waiting, Failure>
     ensures { IfErr result (λ failure. IsOrNoMemory 7 failure) }
 {
+    let listener = listen(rt, serving.socket, serving.group)?;
     match Waiting::new(rt, listener, serving.connections, serving.idle) {
         Ok(waiting) => Ok(waiting),
         Err(error) => Err(of_socket(rt.alloc(), serving.socket, &error)),
@@ -499,19 +497,26 @@ pub(crate) fn serve_socket<'a>(
     gauge: &'a MemoryGauge,
     serving: &'a Serving<'a>,
 ) -> Result<(), Failure> {
-    let listener = listen_over(console, config, serving)?;
+    if let Volumes::Tables(file) = &serving.volumes {
+        check_file(console.rt, file)?;
+    }
+    // The socket is bound before the tables are opened, so that a second server at the same socket does not
+    // open the file of the first.
+    let mut waiting = waiting_at(console.rt, serving)?;
     let service = Service {
         console,
         config,
         serving,
         gauge,
     };
-    let mut waiting = waiting_at(console.rt, serving, listener)?;
     let mut change_store = first_change_store(&service);
+    if let Volumes::Tables(file) = serving.volumes {
+        serve_first(&service, &mut waiting, file);
+    }
     let mut failed = None;
     for _ in 0..serving.connections {
         match next_peer(&service, &mut waiting) {
-            Ok(Some(peer)) => serve_peer(&service, &mut waiting, &mut change_store, &peer),
+            Ok(Some(peer)) => serve_peer(&service, &mut waiting, &mut change_store, peer),
             Ok(None) => break,
             Err(failure) => {
                 failed = Some(failure);

@@ -23,8 +23,8 @@
 //! ```rust
 //! let mut waiting = Waiting::new(&rt, listener, 1_000_000, None)?;
 //! while let Some(peer) = waiting.next(&console)? {
-//!     let turn = Turn::new(&console, &peer, &mut waiting)?;
-//!     let mut reader = peer.first.sent.as_slice().chain(turn.reader());
+//!     let turn = Turn::new(&console, peer, &mut waiting)?;
+//!     let mut reader = turn.peer.first.sent.as_slice().chain(turn.reader());
 //!     let mut writer = GuardedWriter::new(Always, turn.writer());
 //!     serve(alloc, &config, &mut keeper, &mut reader, &mut writer);
 //! }

@@ -63,11 +63,10 @@ fn later(now: Instant, seconds: u64) -> Instant {
     now.checked_add(Duration::from_secs(seconds)).unwrap_or(now)
 }
 
-// The state of a turn: the stream, the queue, and the times that bound the current call and the turn.
+// The state of a turn: the queue, and the times that bound the current call and the turn.
 #[derive(Drop)]
-struct Steps<'a, S> {
+struct Steps<'a> {
     console: &'a Console<'a>,
-    stream: &'a S,
     waiting: &'a mut Waiting,
     // The clock of the current call or reply.
     clock: CallClock,
@@ -82,23 +81,23 @@ struct Steps<'a, S> {
     ending: Option<Ending>,
 }
 
-impl<S: Stream> Steps<'_, S> {
+impl Steps<'_> {
     // Polls the queue. As soon as another connection is ready, reads and writes no longer block. An error of
     // the socket is ignored here; it is reported between two connections.
-    fn look(&mut self, now: Instant) -> io::Result<()>
-        ensures { (self.new.clock ≡ self.old.clock) × (self.new.stream ≡ self.old.stream) }
+    fn look<S: Stream>(&mut self, stream: &S, now: Instant) -> io::Result<()>
+        ensures { self.new.clock ≡ self.old.clock }
     {
         let _ = self.waiting.look(self.console, now);
         if self.is_blocking && self.waiting.has_ready() {
             self.is_blocking = false;
-            self.stream.stop_blocking()?;
+            stream.stop_blocking()?;
         }
         Ok(())
     }
 
     // Ends the turn for this reason. Returns the error for the read or write in which the turn ends.
     fn end(&mut self, ending: Ending) -> io::Error
-        ensures kept { (self.new.clock ≡ self.old.clock) × (self.new.stream ≡ self.old.stream) }
+        ensures clock { self.new.clock ≡ self.old.clock }
         ensures ending { self.new.ending ≡ Some ending }
     {
         self.ending = Some(ending);
@@ -108,8 +107,7 @@ impl<S: Stream> Steps<'_, S> {
     // Returns how long the peer may still delay a read or a write, where `None` means any time, or the reason
     // why the turn ends. If reads block, the peer has already been silent for a second in the read itself.
     fn patience(&mut self, now: Instant) -> Result<Option<Duration>, Ending>
-        ensures call { GoesOnCall self.old.clock self.new.clock }
-        ensures stream { self.new.stream ≡ self.old.stream }
+        ensures { GoesOnCall self.old.clock self.new.clock }
     {
         let blocked = Duration::from_secs(if self.is_blocking { WANTED_SECONDS } else { 0 });
         let idle = self.clock.left_of_idle(self.waiting.idle(), blocked, now)?;
@@ -121,15 +119,14 @@ impl<S: Stream> Steps<'_, S> {
     }
 
     // Polls the queue until the stream is ready, or fails if the time of the peer is over.
-    fn wait(&mut self, way: Way) -> io::Result<()>
-        ensures ready { OnOk result (S.found self.new.stream.now way true) }
+    fn wait<S: Stream>(&mut self, stream: &S, way: Way) -> io::Result<()>
+        ensures ready { OnOk result (S.found stream.now way true) }
         ensures call { GoesOnCall self.old.clock self.new.clock }
-        ensures stream { self.new.stream ≡ self.old.stream }
     {
         for _ in 0..u64::MAX {
             let now = Instant::now(self.console.rt)?;
-            self.look(now)?;
-            if self.stream.is_ready(way) {
+            self.look(stream, now)?;
+            if stream.is_ready(way) {
                 return Ok(());
             }
             match self.patience(now) {
@@ -141,21 +138,20 @@ impl<S: Stream> Steps<'_, S> {
     }
 
     // Waits until the stream can be written. The first wait begins the time of the reply.
-    fn wait_to_write(&mut self) -> io::Result<()>
-        ensures ready { OnOk result (S.found self.new.stream.now Way.Write true) }
+    fn wait_to_write<S: Stream>(&mut self, stream: &S) -> io::Result<()>
+        ensures ready { OnOk result (S.found stream.now Way.Write true) }
         ensures reply { OnOk result (self.new.clock.is_reply ≡ true) }
-        ensures stream { self.new.stream ≡ self.old.stream }
     {
         if self.clock.begin_reply() {
-            self.stream.watch_both(self.waiting)?;
+            stream.watch_both(self.waiting)?;
         }
-        self.wait(Way::Write)
+        self.wait(stream, Way::Write)
     }
 
     // Ends the turn between two calls if its time is over and another connection is ready. If no other
     // connection is ready, the queue is polled again a second later.
     fn end_between_calls(&mut self, now: Instant) -> io::Result<()>
-        ensures { (self.new.clock ≡ self.old.clock) × (self.new.stream ≡ self.old.stream) }
+        ensures { self.new.clock ≡ self.old.clock }
     {
         if now < self.until {
             return Ok(());
@@ -170,9 +166,8 @@ impl<S: Stream> Steps<'_, S> {
 
     // Ends the turn during a call if the time of the call is over. Otherwise polls the queue if reads may
     // block, at most once a second.
-    fn go_on_in_call(&mut self, now: Instant) -> io::Result<()>
-        ensures call { GoesOnCall self.old.clock self.new.clock }
-        ensures stream { self.new.stream ≡ self.old.stream }
+    fn go_on_in_call<S: Stream>(&mut self, stream: &S, now: Instant) -> io::Result<()>
+        ensures { GoesOnCall self.old.clock self.new.clock }
     {
         if let Err(ending) = self.clock.left_of_call(now) {
             return Err(self.end(ending));
@@ -181,35 +176,39 @@ impl<S: Stream> Steps<'_, S> {
             return Ok(());
         }
         self.poll_at = later(now, WANTED_SECONDS);
-        self.look(now)
+        self.look(stream, now)
     }
 
     // Checks the time of the turn and of the call before a read.
-    fn begin_read(&mut self) -> io::Result<()>
-        ensures call { GoesOnCall self.old.clock self.new.clock }
-        ensures stream { self.new.stream ≡ self.old.stream }
+    fn begin_read<S: Stream>(&mut self, stream: &S) -> io::Result<()>
+        ensures { GoesOnCall self.old.clock self.new.clock }
     {
         let now = Instant::now(self.console.rt)?;
         if self.clock.is_between_calls() {
             self.end_between_calls(now)
         } else {
-            self.go_on_in_call(now)
+            self.go_on_in_call(stream, now)
         }
     }
 
     // Reads the next bytes, and waits for them if necessary. Returns 0 at the end of the stream. Fails if the
     // server ends the turn, or the stream or the clock cannot be read.
-    fn read<R: Read>(&mut self, reader: &mut R, buf: &mut [u8]) -> io::Result<usize>
+    fn read<S: Stream, R: Read>(
+        &mut self,
+        stream: &S,
+        reader: &mut R,
+        buf: &mut [u8],
+    ) -> io::Result<usize>
         ensures bound { ReadsAtMost result buf.new }
         ensures bytes { ReadConsumes (R.remaining reader.old) (R.remaining reader.new) result buf.new }
         ensures begun { OnOk result (is_never self.new.clock.begun ≡ false) }
         ensures active { OnOk result (self.new.clock.active ≡ Since.Now) }
         ensures call { is_never self.old.clock.begun ≡ false → GoesOnCall self.old.clock self.new.clock }
     {
-        self.begin_read()?;
+        self.begin_read(stream)?;
         for _ in 0..u64::MAX {
             match reader.read(buf) {
-                Err(error) if may_wait(&error) => self.wait(Way::Read)?,
+                Err(error) if may_wait(&error) => self.wait(stream, Way::Read)?,
                 Ok(count) => {
                     self.clock.note_bytes();
                     return Ok(count);
@@ -222,14 +221,19 @@ impl<S: Stream> Steps<'_, S> {
 
     // Writes as many bytes as the stream takes, and waits until it takes bytes if necessary. Fails if the
     // server ends the turn, the stream cannot be written, or the clock cannot be read.
-    fn write<W: Write>(&mut self, writer: &mut W, buf: &[u8]) -> io::Result<usize>
+    fn write<S: Stream, W: Write>(
+        &mut self,
+        stream: &S,
+        writer: &mut W,
+        buf: &[u8],
+    ) -> io::Result<usize>
         ensures bound { WritesAtMost result buf.now }
         ensures bytes { WriteAppends (W.contents writer.old) (W.contents writer.new) result buf.now }
         ensures active { OnOk result (self.new.clock.active ≡ Since.Now) }
     {
         for _ in 0..u64::MAX {
             match writer.write(buf) {
-                Err(error) if may_wait(&error) => self.wait_to_write()?,
+                Err(error) if may_wait(&error) => self.wait_to_write(stream)?,
                 answer => {
                     self.clock.note_taken();
                     return answer;
@@ -250,8 +254,9 @@ impl<S: Stream> Steps<'_, S> {
 /// The turn of a connection. It bounds how long reads and writes wait for the peer.
 #[derive(Drop)]
 pub struct Turn<'a> {
-    stream: &'a UnixStream,
-    steps: RefCell<Steps<'a, UnixStream>>,
+    /// The connection, with the bytes that it sent while it was in the queue.
+    pub peer: Pending,
+    steps: RefCell<Steps<'a>>,
     /// The reason why the server ended the turn. `None` while the turn goes on, and if the peer or an error
     /// of the stream ended it.
     pub ending: Cell<Option<Ending>>,
@@ -267,19 +272,17 @@ impl<'a> Turn<'a> {
     /// If the system refuses a setting of the stream, or the clock cannot be read.
     pub fn new(
         console: &'a Console<'a>,
-        peer: &'a Pending,
+        peer: Pending,
         waiting: &'a mut Waiting,
     ) -> io::Result<Turn<'a>> {
-        let stream = &peer.stream;
         let is_blocking = !waiting.has_ready();
-        stream.set_nonblocking(!is_blocking)?;
+        peer.stream.set_nonblocking(!is_blocking)?;
         let second = Some(Duration::from_secs(WANTED_SECONDS));
-        stream.set_read_timeout(second)?;
-        stream.set_write_timeout(second)?;
+        peer.stream.set_read_timeout(second)?;
+        peer.stream.set_write_timeout(second)?;
         let now = Instant::now(console.rt)?;
         let steps = Steps {
             console,
-            stream,
             waiting,
             clock: CallClock::new(peer.first.spent()),
             until: later(now, TURN_SECONDS),
@@ -288,25 +291,25 @@ impl<'a> Turn<'a> {
             ending: None,
         };
         Ok(Turn {
-            stream,
+            peer,
             steps: RefCell::new(steps),
             ending: Cell::new(None),
         })
     }
 
     /// Returns a reader of the connection's calls. This turn bounds how long its reads wait.
-    pub fn reader(&self) -> TurnReader<'_, 'a, &'a UnixStream> {
+    pub fn reader(&self) -> TurnReader<'_, 'a, &UnixStream> {
         TurnReader {
             turn: self,
-            stream: self.stream,
+            stream: &self.peer.stream,
         }
     }
 
     /// Returns a writer of the connection's replies. This turn bounds how long its writes wait.
-    pub fn writer(&self) -> TurnWriter<'_, 'a, &'a UnixStream> {
+    pub fn writer(&self) -> TurnWriter<'_, 'a, &UnixStream> {
         TurnWriter {
             turn: self,
-            stream: self.stream,
+            stream: &self.peer.stream,
         }
     }
 }
@@ -325,7 +328,7 @@ impl<R: Read> Read for TurnReader<'_, '_, R> {
         let Ok(mut steps) = self.turn.steps.try_borrow_mut() else {
             return Err(io::Error::from(ErrorKind::Other));
         };
-        let answer = steps.read(&mut self.stream, buf);
+        let answer = steps.read(&self.turn.peer.stream, &mut self.stream, buf);
         self.turn.ending.set(steps.ending);
         answer
     }
@@ -346,7 +349,7 @@ impl<W: Write> Write for TurnWriter<'_, '_, W> {
         let Ok(mut steps) = self.turn.steps.try_borrow_mut() else {
             return Err(io::Error::from(ErrorKind::Other));
         };
-        let answer = steps.write(&mut self.stream, buf);
+        let answer = steps.write(&self.turn.peer.stream, &mut self.stream, buf);
         self.turn.ending.set(steps.ending);
         answer
     }

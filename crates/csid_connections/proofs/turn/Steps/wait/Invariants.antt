@@ -1,6 +1,5 @@
-use Rattle.std.proofs.Common.{◌≡◌}
 use Rattle.csid_connections.specs.Calling.{GoesOnCall}
 use Rattle.csid_connections.proofs.turn.Steps.wait.Given as goal
 
 abbrev pub invariant-loop : goal.invariant-loop
-invariant-loop g l = GoesOnCall l.fn.self.clock l.self.clock × (l.self.stream ≡ l.fn.self.stream)
+invariant-loop g l = GoesOnCall l.fn.self.clock l.self.clock
