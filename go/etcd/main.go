@@ -17,9 +17,10 @@ import (
 	"fomaheti/logqueue"
 	"fomaheti/sockets"
 	_ "fomaheti/streams"
+	"fomaheti/words"
 )
 
-// Exit statuses. csid uses the same numbers for the same outcomes.
+// Exit statuses, besides words.ExitOutput. csid uses the same numbers for the same outcomes.
 const (
 	exitOK      = 0
 	exitFailure = 1
@@ -38,7 +39,8 @@ func main() {
 	signal.Ignore(syscall.SIGPIPE)
 	opts, err := readOptions(os.Args[1:], os.Stdout)
 	// Lines have no time if the program runs as a command, or if its arguments are refused.
-	lines, queue := newLogger(os.Stderr, opts.logFormat, err == nil && !opts.isOneShot() && !logqueue.HasJournal())
+	isTimed := err == nil && !opts.isOneShot() && !opts.version && !logqueue.HasJournal()
+	lines, queue := newLogger(os.Stderr, opts.logFormat, isTimed)
 	status := run(opts, err, lines)
 	queue.End(lastLinesTime)
 	os.Exit(status)
@@ -50,13 +52,17 @@ func run(opts options, err error, lines *logger) int {
 	if errors.Is(err, flag.ErrHelp) {
 		return exitOK
 	}
+	if err == nil && opts.version {
+		if err = words.Print(os.Stdout, "csid-etcd "+version+"\n"); err == nil {
+			return exitOK
+		}
+	}
 	if err != nil {
 		lines.fails(err)
+		if errors.Is(err, words.ErrOutput) {
+			return words.ExitOutput
+		}
 		return exitUsage
-	}
-	if opts.version {
-		fmt.Println("csid-etcd", version)
-		return exitOK
 	}
 	if opts.isOneShot() {
 		return runOnce(opts, lines)

@@ -25,12 +25,14 @@ import (
 	"fomaheti/logqueue"
 	"fomaheti/sockets"
 	_ "fomaheti/streams"
+	"fomaheti/words"
 )
 
 // The exit statuses: exitOK after all calls have ended and for --help and --version, exitCutOff if
 // calls still ran, exitUsage for arguments that are refused, exitNoReply if csid was silent for the
-// time of --standby, exitNoSocket if a socket cannot be made or taking connections fails. csid uses
-// the same numbers for the same outcomes, except for 3.
+// time of --standby, exitNoSocket if a socket cannot be made or taking connections fails. The exit
+// status is words.ExitOutput if the output of --help or --version cannot be written. csid uses the
+// same numbers for the same outcomes, except for 3.
 const (
 	exitOK       = 0
 	exitCutOff   = 1
@@ -57,7 +59,7 @@ func main() {
 	useOneProcessor()
 	opts, err := readOptions(os.Args[1:], os.Getenv("CSI_ENDPOINT"), os.Stdout)
 	// A refusal of the arguments is one line without a time, as in any command.
-	log := newLog(os.Stderr, opts.logFormat, err == nil && !logqueue.HasJournal())
+	log := newLog(os.Stderr, opts.logFormat, err == nil && !opts.version && !logqueue.HasJournal())
 	status := run(opts, err, log)
 	log.end(lastLinesTime)
 	os.Exit(status)
@@ -78,14 +80,18 @@ func run(opts options, err error, log *logger) int {
 	if errors.Is(err, flag.ErrHelp) {
 		return exitOK
 	}
+	if err == nil && opts.version {
+		// The packages of packaging/ install the program under a longer name.
+		if err = words.Print(os.Stdout, filepath.Base(os.Args[0])+" "+version+"\n"); err == nil {
+			return exitOK
+		}
+	}
 	if err != nil {
 		log.logFailure(err)
+		if errors.Is(err, words.ErrOutput) {
+			return words.ExitOutput
+		}
 		return exitUsage
-	}
-	if opts.version {
-		// The packages of packaging/ install the program under a longer name.
-		fmt.Println(filepath.Base(os.Args[0]), version)
-		return exitOK
 	}
 	f := &front{opts, log, newHandler(opts, log), nil, make(chan os.Signal, 2), make(chan error, 2),
 		make(chan error, 1)}

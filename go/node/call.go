@@ -5,10 +5,11 @@ import (
 	"encoding/json"
 	"errors"
 	"flag"
-	"fmt"
 	"io"
 	"sort"
 	"strings"
+
+	"fomaheti/words"
 )
 
 // rpcMethod is a method of CSI: its service, and functions that make an empty request and response.
@@ -69,10 +70,10 @@ func call(args []string, out io.Writer) error {
 		return err
 	}
 	line, err := json.Marshal(response)
-	if err == nil {
-		_, err = fmt.Fprintf(out, "%s\n", line)
+	if err != nil {
+		return err
 	}
-	return err
+	return words.Print(out, string(line)+"\n")
 }
 
 // decodeJSON decodes the only JSON value of a text. An unknown field is an error. An empty text

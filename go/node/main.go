@@ -17,9 +17,10 @@ import (
 
 	"fomaheti/sockets"
 	_ "fomaheti/streams"
+	"fomaheti/words"
 )
 
-// Exit statuses. A refused call is a failure.
+// Exit statuses, besides words.ExitOutput. A refused call is a failure.
 const (
 	exitOK      = 0
 	exitFailure = 1
@@ -49,12 +50,10 @@ func run(args []string, out, log io.Writer) int {
 		command = args[0]
 	}
 	if command == "--version" {
-		fmt.Fprintln(out, "node-plugin", version)
-		return exitOK
+		return exitStatus(words.Print(out, "node-plugin "+version+"\n"), log)
 	}
 	if command == "--help" {
-		fmt.Fprint(out, usageText)
-		return exitOK
+		return exitStatus(words.Print(out, usageText), log)
 	}
 	if commands[command] == nil {
 		fmt.Fprint(log, usageText)
@@ -74,8 +73,11 @@ func exitStatus(err error, log io.Writer) int {
 		return exitFailure
 	}
 	fmt.Fprintf(log, "node-plugin: %v\n", err)
-	if errors.As(err, new(usageError)) {
+	switch {
+	case errors.As(err, new(usageError)):
 		return exitUsage
+	case errors.Is(err, words.ErrOutput):
+		return words.ExitOutput
 	}
 	return exitFailure
 }

@@ -6,6 +6,8 @@ import (
 	"fmt"
 	"io"
 	"strings"
+
+	"fomaheti/words"
 )
 
 // usageError is an error in the command line: the program ends with exitUsage.
@@ -75,16 +77,13 @@ func (opts *serveOptions) addTopology(pairs string) error {
 }
 
 // parseFlags parses flags, and refuses more than maxArgs further arguments. For --help it prints
-// the usage to out, and returns flag.ErrHelp.
+// the usage to out, and returns flag.ErrHelp, or words.ErrOutput if it cannot be written.
 func parseFlags(flags *flag.FlagSet, args []string, maxArgs int, out io.Writer) error {
 	flags.SetOutput(io.Discard)
 	flags.Usage = func() {}
 	err := flags.Parse(args)
 	if errors.Is(err, flag.ErrHelp) {
-		fmt.Fprint(out, usageText)
-		flags.SetOutput(out)
-		flags.PrintDefaults()
-		return err
+		return words.Help(flags, usageText, out)
 	}
 	if err != nil {
 		return usageError{err}

@@ -5,6 +5,7 @@ import (
 	"path/filepath"
 	"reflect"
 	"strings"
+	"syscall"
 	"testing"
 )
 
@@ -114,6 +115,22 @@ func TestHelp(t *testing.T) {
 				t.Errorf("got %d, %q, errors %q, want %q", status, out.String(), log.String(), c.want)
 			}
 		})
+	}
+}
+
+// fullDevice is a writer that has no room.
+type fullDevice struct{}
+
+func (fullDevice) Write([]byte) (int, error) { return 0, syscall.ENOSPC }
+
+// If the help or the version cannot be written, the exit status is 5.
+func TestHelpToAFullDevice(t *testing.T) {
+	for _, args := range []string{"--help", "--version", "serve --help"} {
+		var log strings.Builder
+		status := run(strings.Fields(args), fullDevice{}, &log)
+		if want := "node-plugin: a write to standard output failed\n"; status != 5 || log.String() != want {
+			t.Errorf("%s: got %d, %q, want 5, %q", args, status, log.String(), want)
+		}
 	}
 }
 

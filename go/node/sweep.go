@@ -3,11 +3,12 @@ package main
 import (
 	"context"
 	"flag"
-	"fmt"
 	"io"
 	"os"
 	"path/filepath"
 	"regexp"
+
+	"fomaheti/words"
 )
 
 var dataName = regexp.MustCompile(`^(vol-[1-9][0-9]*)\.(img|img\.new|d)$`)
@@ -41,7 +42,9 @@ func sweep(args []string, out io.Writer) error {
 				return err
 			}
 		}
-		fmt.Fprintln(out, data)
+		if err := words.Print(out, data+"\n"); err != nil {
+			return err
+		}
 	}
 	return nil
 }
