@@ -1,5 +1,5 @@
 """The alerts and the dashboard in Prometheus: promtool accepts the expressions, each alert fires after its
-time and ends, and those of full pools and nodes fire at their shares."""
+time and ends, and the alerts of full pools and nodes fire at their shares."""
 
 import json
 import os
@@ -26,8 +26,8 @@ CREATE = 'method="/csi.v1.Controller/CreateVolume"'
 SLOW = [("call_duration_seconds_bucket", '%s, le="10"', "0+10x10 108+8x19 270+10x30"),
         ("call_duration_seconds_bucket", '%s, le="30"', "0+10x60"),
         ("call_duration_seconds_bucket", '%s, le="+Inf"', "0+10x60")]
-# Each row has an alert, an event, the series of the event (name, labels, and a value for each minute), the
-# minute in which the alert fires, and the minute in which the alert ends. A failed scrape leaves `stale`.
+# Each row has an alert, an event, the series of the event (name, labels, and a value for each minute), and
+# the minutes when the alert fires and ends. A failed scrape leaves `stale`.
 FIRING = [
     ("CsidFrontDown", "no front answers for 20 minutes", [("build_info", "", "1x5 stale _x19 1x30")], 11, 26),
     ("CsidDown", "csid is away for 10 minutes", [("csid_up", "", "1x5 0x9 1x30")], 8, 16),

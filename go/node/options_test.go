@@ -118,18 +118,23 @@ func TestHelp(t *testing.T) {
 	}
 }
 
-// fullDevice is a writer that has no room.
-type fullDevice struct{}
+// failingOutput is an output to which no write succeeds.
+type failingOutput struct{ err error }
 
-func (fullDevice) Write([]byte) (int, error) { return 0, syscall.ENOSPC }
+func (o failingOutput) Write([]byte) (int, error) { return 0, o.err }
 
-// If the help or the version cannot be written, the exit status is 5.
-func TestHelpToAFullDevice(t *testing.T) {
+// If the help or the version cannot be written, the exit status is 5, but 0 if the reader has gone.
+func TestHelpToAFailingOutput(t *testing.T) {
 	for _, args := range []string{"--help", "--version", "serve --help"} {
 		var log strings.Builder
-		status := run(strings.Fields(args), fullDevice{}, &log)
+		status := run(strings.Fields(args), failingOutput{syscall.ENOSPC}, &log)
 		if want := "node-plugin: a write to standard output failed\n"; status != 5 || log.String() != want {
 			t.Errorf("%s: got %d, %q, want 5, %q", args, status, log.String(), want)
+		}
+		log.Reset()
+		status = run(strings.Fields(args), failingOutput{syscall.EPIPE}, &log)
+		if status != exitOK || log.String() != "" {
+			t.Errorf("%s to a reader that has gone: got %d, %q, want 0", args, status, log.String())
 		}
 	}
 }

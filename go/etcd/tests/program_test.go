@@ -75,21 +75,7 @@ func TestArguments(t *testing.T) {
 // If the output of --help or --version cannot be written, the exit status is 5.
 func TestHelpToAFullDevice(t *testing.T) {
 	t.Parallel()
-	full, err := os.OpenFile("/dev/full", os.O_WRONLY, 0)
-	if err != nil {
-		t.Fatal(err)
-	}
-	defer full.Close()
-	for _, word := range []string{"--help", "--version"} {
-		var log strings.Builder
-		command := exec.Command(processes.EtcdProgram(t), word)
-		command.Stdout, command.Stderr = full, &log
-		command.Run()
-		const want = "csid-etcd: a write to standard output failed\n"
-		if status := command.ProcessState.ExitCode(); status != 5 || log.String() != want {
-			t.Errorf("%s: got %d, %q, want 5, %q", word, status, log.String(), want)
-		}
-	}
+	processes.WantOutputFailure(t, processes.EtcdProgram(t), "csid-etcd")
 }
 
 // Only their user may use the socket and the file of the revision, also with umask 0. A later

@@ -342,21 +342,7 @@ func TestHelp(t *testing.T) {
 // If the output of --help or --version cannot be written, the exit status is 5.
 func TestHelpToAFullDevice(t *testing.T) {
 	t.Parallel()
-	full, err := os.OpenFile("/dev/full", os.O_WRONLY, 0)
-	if err != nil {
-		t.Fatal(err)
-	}
-	defer full.Close()
-	for _, word := range []string{"--help", "--version"} {
-		var log strings.Builder
-		command := exec.Command(processes.FrontProgram(t), word)
-		command.Stdout, command.Stderr = full, &log
-		command.Run()
-		const want = "front: a write to standard output failed\n"
-		if status := command.ProcessState.ExitCode(); status != 5 || log.String() != want {
-			t.Errorf("%s: status %d, logged %q, wanted %q", word, status, log.String(), want)
-		}
-	}
+	processes.WantOutputFailure(t, processes.FrontProgram(t), "front")
 }
 
 // Another process that can only read the folder of a socket may lock the folder. This delays a

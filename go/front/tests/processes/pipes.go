@@ -3,6 +3,7 @@ package processes
 import (
 	"io"
 	"os"
+	"os/exec"
 	"strings"
 	"syscall"
 	"testing"
@@ -62,4 +63,25 @@ func ClosedPipe(t *testing.T) *os.File {
 	in.Close()
 	t.Cleanup(func() { out.Close() })
 	return out
+}
+
+// WantOutputFailure checks that a program ends with status 5 if the output of --help or --version
+// cannot be written, and that its line on standard error begins with name.
+func WantOutputFailure(t *testing.T, program, name string) {
+	t.Helper()
+	full, err := os.OpenFile("/dev/full", os.O_WRONLY, 0)
+	if err != nil {
+		t.Fatal(err)
+	}
+	defer full.Close()
+	want := name + ": a write to standard output failed\n"
+	for _, word := range []string{"--help", "--version"} {
+		var log strings.Builder
+		command := exec.Command(program, word)
+		command.Stdout, command.Stderr = full, &log
+		command.Run()
+		if status := command.ProcessState.ExitCode(); status != 5 || log.String() != want {
+			t.Errorf("%s: got %d, %q, want 5, %q", word, status, log.String(), want)
+		}
+	}
 }
